@@ -1,0 +1,6 @@
+mod Bounds
+mod Places
+mod Clearing
+mod Combined
+mod RowFacts
+mod Saturated

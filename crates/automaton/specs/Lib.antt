@@ -1,0 +1,5 @@
+pub mod Pushdown
+pub mod Automaton
+pub mod Limits
+pub mod Layout
+pub mod Rows
