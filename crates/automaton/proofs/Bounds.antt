@@ -6,7 +6,7 @@ use Prim.Native.Nat.{ℕ, _*_, _<_, _≤_}
 use native.Mathlib.Omega.{arith}
 use Rattle.std.proofs.shelf.Ways.{tells}
 use Rattle.automaton.specs.declared.sizes.Sizes.{Sizes}
-use Rattle.automaton.specs.Limits.{sizes-allowed, edge-count, edges-fit, edge-fits, read-fits}
+use Rattle.automaton.specs.Limits.{sizes-allowed, edge-count, all-below, edges-fit, edge-fits, read-fits}
 
 module _ (z : Sizes) where
   pub states-bound : sizes-allowed z ≡ true → z .states ≤ 64
@@ -32,3 +32,10 @@ module _ (z : Sizes) where
 
   pub read-from : (edges finals scratch q : ℕ) (w : List ℕ) → read-fits z edges finals scratch q w ≡ true → (q < z .states) × (2 * z .states ≤ scratch)
   read-from edges finals scratch q w h = (grind (arith, tells), grind (arith, tells))
+
+  pub fit-from : (n : ℕ) → sizes-allowed z ≡ true → edge-count z ≤ n → edges-fit z n ≡ true
+  fit-from n allowed enough = grind (arith, tells)
+
+  pub read-within : (edges finals scratch q : ℕ) (w : List ℕ) → edges-fit z edges ≡ true → z .states ≤ finals → 2 * z .states ≤ scratch → q < z .states → all-below (z .symbols) w ≡ true
+      → read-fits z edges finals scratch q w ≡ true
+  read-within edges finals scratch q w fit f s h below = grind (arith, tells)

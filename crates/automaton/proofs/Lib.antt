@@ -1,5 +1,6 @@
-mod Bounds
-mod Places
+pub mod Options
+pub mod Bounds
+pub mod Places
 mod Clearing
 mod Combined
 mod RowFacts

@@ -1,0 +1,6 @@
+mod Woken
+mod Fitting
+mod Refusing
+mod Adding
+mod Stepping
+mod Looking

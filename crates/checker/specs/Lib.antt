@@ -1,0 +1,6 @@
+pub mod Refusals
+pub mod Session
+pub mod Checks
+pub mod Calls
+pub mod Did
+pub mod Views
