@@ -2,7 +2,7 @@ ghost use mathlib.Core.Path.{_≡_};
 ghost use Rattle.checker.specs.Refusals.{reason};
 
 // Why a call was not done.
-#[derive(Clone, Copy)]
+#[derive(Clone, Copy, Debug)]
 pub enum Refusal {
     // The sizes are not allowed.
     Sizes,

@@ -1,0 +1,14 @@
+#[cfg(test)]
+mod astray;
+#[cfg(test)]
+mod bench;
+#[cfg(test)]
+mod refusals;
+#[cfg(test)]
+mod single;
+#[cfg(test)]
+mod sizes;
+#[cfg(test)]
+mod weights;
+#[cfg(test)]
+mod worked;
