@@ -17,11 +17,15 @@ use Rattle.automaton.specs.Automaton.{answer}
 use Rattle.automaton.specs.Limits.{edge-count}
 use Rattle.automaton.specs.Layout.{edge-at, edge-changes, edge-set, saturated}
 use Rattle.checker.specs.declared.answers.Report.{Report}
+use Rattle.checker.specs.declared.stages.Stage.{Stage}
 use Rattle.checker.specs.declared.stages.Stage.the-variants.{Editing}
 use Rattle.checker.specs.Session.{Table, Session, bare, readers}
 
 abbrev pub marked : Table → ℕ → Table
 marked t q = record { stage = t .stage; sizes = t .sizes; rules = t .rules; finals = set (t .finals) q true; total = t .total }
+
+abbrev pub in-stage : Table → Stage → Table
+in-stage t g = record { stage = g; sizes = t .sizes; rules = t .rules; finals = t .finals; total = t .total }
 
 abbrev pub new-rule : ℕ → ℕ → ℕ → List ℕ → Rule
 new-rule p g p2 w = record { control = p; symbol = g; target = p2; word = word-of w }

@@ -35,6 +35,11 @@ is-editing Blank = false
 is-editing Editing = true
 is-editing Released = false
 
+abbrev pub is-released : Stage → Bool
+is-released Blank = false
+is-released Editing = false
+is-released Released = true
+
 -- editing or released
 abbrev pub is-open : Stage → Bool
 is-open Blank = false
@@ -51,6 +56,23 @@ final-tests t q =
 
 abbrev pub final-refusal : Table → ℕ → Option Reason
 final-refusal t q = first (final-tests t q)
+
+-- a release is refused while a number waits
+abbrev pub release-tests : Table → Bool → List (Bool × Reason)
+release-tests t idle =
+    (not (is-editing (t .stage)), reason no.WrongStage)
+    ∷ ((not idle, reason no.Waiting)
+    ∷ [])
+
+abbrev pub release-refusal : Table → Bool → Option Reason
+release-refusal t idle = first (release-tests t idle)
+
+-- withdraw and tally want a released record
+abbrev pub released-tests : Table → List (Bool × Reason)
+released-tests t = (not (is-released (t .stage)), reason no.WrongStage) ∷ []
+
+abbrev pub released-refusal : Table → Option Reason
+released-refusal t = first (released-tests t)
 
 abbrev pub open-tests : Sizes → ℕ → ℕ → List (Bool × Reason)
 open-tests z edges room =

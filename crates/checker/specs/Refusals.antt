@@ -6,7 +6,7 @@ use Rattle.std.specs.declared.option.Option.the-variants.{Some, None}
 use Rattle.std.specs.declared.result.Result.{Result}
 use Rattle.std.specs.declared.result.Result.the-variants.{Ok, Err}
 use Rattle.checker.specs.declared.refusals.Refusal.{Refusal}
-use Rattle.checker.specs.declared.refusals.Refusal.the-variants.{Sizes, TooShort, SmallWorklist, WrongStage, NoState, NoSymbol, LongWord, IntoControl, Full}
+use Rattle.checker.specs.declared.refusals.Refusal.the-variants.{Sizes, TooShort, SmallWorklist, WrongStage, NoState, NoSymbol, LongWord, IntoControl, Full, Waiting}
 
 -- a refusal by its number, with the values that it carries
 pub record Reason : Type 0 where
@@ -27,6 +27,7 @@ reason NoSymbol = because 6
 reason LongWord = because 7
 reason IntoControl = because 8
 reason Full = because 9
+reason Waiting = because 10
 
 -- what a call answered, with a refusal by its number
 abbrev pub told : {A : Type 0} → Result A Refusal → Result A Reason

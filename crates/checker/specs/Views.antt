@@ -7,6 +7,7 @@ use Rattle.std.specs.declared.result.Result.{Result}
 use Rattle.std.specs.declared.result.Result.the-variants.{Ok, Err}
 use Rattle.worklist.specs.Sets.{Set}
 use Rattle.checker.specs.declared.answers.Answer.{Answer}
+use Rattle.checker.specs.declared.passes.HandedBack.{HandedBack}
 use Rattle.checker.specs.declared.record.Record.{Record}
 use Rattle.checker.specs.declared.refusals.Refusal.{Refusal}
 use Rattle.checker.specs.Session.{Table, Session}
@@ -31,3 +32,18 @@ answered value (Err e) = Err e
 abbrev pub written : {X : Type 0} → Result ℕ Refusal → List X → X → List X
 written (Ok n) xs x = set xs n x
 written (Err e) xs x = xs
+
+-- the value that a weight stands for
+abbrev pub valued : {S V : Type 0} → (S → V) → Result S Refusal → Result V Refusal
+valued value (Ok x) = Ok (value x)
+valued value (Err e) = Err e
+
+-- what a call answered that hands its pass back with a refusal
+abbrev pub refusal-of : {A P : Type 0} → Result A (HandedBack P) → Result A Refusal
+refusal-of (Ok x) = Ok x
+refusal-of (Err b) = Err (b .refusal)
+
+-- the same, where the answer is a new pass
+abbrev pub passed : {A P : Type 0} → Result A (HandedBack P) → Result (Unit {0}) Refusal
+passed (Ok x) = Ok tt
+passed (Err b) = Err (b .refusal)

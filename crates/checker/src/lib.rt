@@ -9,3 +9,4 @@ pub mod record;
 pub mod refusals;
 pub mod settling;
 pub mod stages;
+pub mod staging;

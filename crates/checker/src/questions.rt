@@ -9,9 +9,10 @@ ghost use Rattle.automaton.specs.Limits.{edge-count, all-below};
 ghost use Rattle.checker.specs.Refusals.{reason, told, On-refusal};
 ghost use Rattle.checker.specs.Checks.{is-open, question-refusal};
 ghost use Rattle.checker.specs.Calls.{asked};
-ghost use Rattle.checker.specs.Did.{Did, question};
-ghost use Rattle.checker.specs.Views.{session-of, answered};
+ghost use Rattle.checker.specs.Did.{Did, question, released-question};
+ghost use Rattle.checker.specs.Views.{session-of, answered, valued};
 use crate::answers::Answer;
+use crate::passes::Released;
 use crate::record::Record;
 use crate::refusals::Refusal;
 use crate::stages::Stage;
@@ -92,5 +93,30 @@ impl Record {
         let weight = self.ask(edges, scratch, control, word);
         let settled = worklist.is_empty();
         Ok(Answer { weight, settled })
+    }
+
+    // The weight of a configuration, after the release.
+    pub fn released_question<S: Scale>(
+        &self,
+        _pass: &Released,
+        edges: &[S],
+        scratch: &mut [S],
+        control: usize,
+        word: &[u8],
+    ) -> Result<S, Refusal>
+        ensures did { λ r. ⌜ ((ws : List Value) (w : Set) (m : ℕ) → Did values (session-of (now (self .entry)) (map value (now (edges .entry))) ws w m) (released-question control (now (word .entry)) (length (now (scratch .entry))) (told (valued value r))) (session-of (now (self .entry)) (map value (now (edges .entry))) ws w m)) ⌝ }
+        ensures refused { λ r. ⌜ On-refusal r (now (scratch .exit) ≡ now (scratch .entry)) ⌝ }
+        ensures scratch { λ _. ⌜ length (now (scratch .exit)) ≡ length (now (scratch .entry)) ⌝ }
+    {
+        if let Some(refusal) = self.question_refusal(
+            self.is_released(),
+            edges,
+            scratch.len(),
+            control,
+            word,
+        ) {
+            return Err(refusal);
+        }
+        Ok(self.ask(edges, scratch, control, word))
     }
 }

@@ -22,6 +22,8 @@ pub enum Refusal {
     IntoControl,
     // There are as many rules as may be.
     Full,
+    // A number waits.
+    Waiting,
 }
 
 impl Refusal {
@@ -38,6 +40,7 @@ impl Refusal {
             Refusal::LongWord => 7,
             Refusal::IntoControl => 8,
             Refusal::Full => 9,
+            Refusal::Waiting => 10,
         }
     }
 }

@@ -9,6 +9,8 @@ mod single;
 #[cfg(test)]
 mod sizes;
 #[cfg(test)]
+mod staging;
+#[cfg(test)]
 mod weights;
 #[cfg(test)]
 mod worked;
