@@ -1,7 +1,8 @@
+pub mod Numbered
 pub mod Options
 pub mod Bounds
 pub mod Places
 mod Clearing
-mod Combined
-mod RowFacts
+pub mod Combined
+pub mod RowFacts
 mod Saturated

@@ -1,5 +1,5 @@
 -- What an answer that is given only if a test holds says of the test.
-use mathlib.Core.Path.{_≡_, refl, ap, _∙_}
+use mathlib.Core.Path.{_≡_, refl, sym, ap, _∙_}
 use mathlib.Core.Bool.{Bool, true, false}
 use native.Mathlib.Omega.{arith}
 use Prim.Native.Nat.{ℕ}
@@ -22,3 +22,9 @@ is-given b x o is holds = ap isSome (is ∙ ap (λ (t : Bool). only-if t x) hold
 pub mapped-given : {A B : Type 0} (f : A → B) (b : Bool) (x : B) (o : Option A) → mapped f o ≡ only-if b x → b ≡ true → isSome o ≡ true
 mapped-given f b x None is holds = is-given b x None is holds
 mapped-given f b x (Some y) is holds = refl
+
+pub gives : {A : Type 0} (b : Bool) (x : A) → b ≡ true → Some x ≡ only-if b x
+gives b x holds = ap (λ (t : Bool). only-if t x) (sym holds)
+
+pub gives-none : {A : Type 0} (b : Bool) (x : A) → b ≡ false → None ≡ only-if b x
+gives-none b x fails = ap (λ (t : Bool). only-if t x) (sym fails)

@@ -1,6 +1,6 @@
 mod Woken
 mod Fitting
-mod Refusing
+pub mod Refusing
 mod Adding
 mod Stepping
-mod Looking
+pub mod Looking
