@@ -4,3 +4,4 @@ pub mod Refusing
 mod Adding
 mod Stepping
 pub mod Looking
+mod Retold

@@ -3,4 +3,5 @@ pub mod Session
 pub mod Checks
 pub mod Calls
 pub mod Did
+pub mod Replay
 pub mod Views

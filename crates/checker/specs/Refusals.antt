@@ -1,12 +1,12 @@
 -- Why a call was not done.
-use mathlib.Core.List.{List, []}
+use mathlib.Core.List.{List, [], _∷_}
 use Prim.Native.Nat.{ℕ}
 use Rattle.std.specs.declared.option.Option.{Option}
 use Rattle.std.specs.declared.option.Option.the-variants.{Some, None}
 use Rattle.std.specs.declared.result.Result.{Result}
 use Rattle.std.specs.declared.result.Result.the-variants.{Ok, Err}
 use Rattle.checker.specs.declared.refusals.Refusal.{Refusal}
-use Rattle.checker.specs.declared.refusals.Refusal.the-variants.{Sizes, TooShort, SmallWorklist, WrongStage, NoState, NoSymbol, LongWord, IntoControl, Full, Waiting}
+use Rattle.checker.specs.declared.refusals.Refusal.the-variants.{Sizes, TooShort, SmallWorklist, WrongStage, NoState, NoSymbol, LongWord, IntoControl, Full, Waiting, Misfit, NoRoom}
 
 -- a refusal by its number, with the values that it carries
 pub record Reason : Type 0 where
@@ -28,6 +28,8 @@ reason LongWord = because 7
 reason IntoControl = because 8
 reason Full = because 9
 reason Waiting = because 10
+reason (Misfit place control length) = record { number = 11; values = place ∷ (control ∷ (length ∷ [])) }
+reason (NoRoom place control length) = record { number = 12; values = place ∷ (control ∷ (length ∷ [])) }
 
 -- what a call answered, with a refusal by its number
 abbrev pub told : {A : Type 0} → Result A Refusal → Result A Reason

@@ -7,6 +7,7 @@ pub mod questions;
 pub mod readers;
 pub mod record;
 pub mod refusals;
+pub mod replaying;
 pub mod settling;
 pub mod stages;
 pub mod staging;

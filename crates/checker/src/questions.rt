@@ -23,7 +23,7 @@ use worklist::Worklist;
 
 impl Record {
     // Whether it is editing or released.
-    fn is_open(&self) -> bool
+    pub(crate) fn is_open(&self) -> bool
         ensures { λ r. ⌜ r ≡ is-open (now (self .entry) .stage) ⌝ }
     {
         match self.stage {

@@ -24,6 +24,18 @@ pub enum Refusal {
     Full,
     // A number waits.
     Waiting,
+    // An entry of a replay names no rule, or one that does not fit what the run has come to.
+    Misfit {
+        place: usize,
+        control: usize,
+        length: usize,
+    },
+    // The rule of an entry fits, but its second symbol has no place.
+    NoRoom {
+        place: usize,
+        control: usize,
+        length: usize,
+    },
 }
 
 impl Refusal {
@@ -41,6 +53,8 @@ impl Refusal {
             Refusal::IntoControl => 8,
             Refusal::Full => 9,
             Refusal::Waiting => 10,
+            Refusal::Misfit { .. } => 11,
+            Refusal::NoRoom { .. } => 12,
         }
     }
 }

@@ -5,6 +5,8 @@ mod bench;
 #[cfg(test)]
 mod refusals;
 #[cfg(test)]
+mod replay;
+#[cfg(test)]
 mod single;
 #[cfg(test)]
 mod sizes;

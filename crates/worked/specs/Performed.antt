@@ -1,15 +1,20 @@
 -- Calls on a session, and what they answer and leave with the smallest number taken first.
 use mathlib.Core.Bool.{Bool}
 use mathlib.Core.List.{List, [], _∷_, _++_}
-use Prim.Native.Nat.{ℕ, _*_}
-use lib.ListN.{length}
+use Prim.Native.Nat.{ℕ, _-_, _*_}
+use lib.ListN.{length, replicate}
 use Rattle.std.specs.declared.option.Option.{Option}
 use Rattle.std.specs.declared.option.Option.the-variants.{Some, None}
+use Rattle.std.specs.declared.result.Result.{Result}
+use Rattle.std.specs.declared.result.Result.the-variants.{Ok, Err}
 use Rattle.scale.specs.Semiring.{Semiring}
+use Rattle.runs.specs.Stacks.{Point, replayed}
+use Rattle.runs.specs.Points.{start}
 use Rattle.checker.specs.Session.{Session}
 use Rattle.checker.specs.Checks.{left-or, is-open, final-refusal, rule-refusal, edge-refusal, settle-refusal, question-refusal}
 use Rattle.checker.specs.Calls.{marked, in-table, rule-added, changes, edge-added, counted, asked}
 use Rattle.checker.specs.Refusals.{Reason}
+use Rattle.checker.specs.Replay.{replay-refusal, refused-or-ran}
 use Rattle.worked.specs.Smallest.{run, next, is-none}
 
 pub data Call (V : Type 0) : Type 0 where
@@ -18,6 +23,8 @@ pub data Call (V : Type 0) : Type 0 where
   final : (state : ℕ) → Call V
   settle : (budget : ℕ) → Call V
   question : (control : ℕ) (word : List ℕ) → Call V
+  -- the stack has its bottom first, in a buffer of so many bytes
+  replay : (numbers : List ℕ) (control : ℕ) (stack : List ℕ) (room : ℕ) → Call V
 
 -- what a call answered, a weight by its numbers: none has no number
 pub data Said : Type 0 where
@@ -27,12 +34,22 @@ pub data Said : Type 0 where
   done : Said
   report : (steps raises : ℕ) (settled : Bool) → Said
   answer : (weight : List ℕ) (settled : Bool) → Said
+  ran : (control length : ℕ) (weight : List ℕ) → Said
+  stopped : (number : ℕ) (values : List ℕ) → Said
 
 abbrev unless : Option Reason → Said → Said
 unless None said = said
 unless (Some e) said = refused (e .number)
 
+-- a stack at the bottom of a buffer
+abbrev buffered : List ℕ → ℕ → List ℕ
+buffered stack room = stack ++ replicate (room - length stack) 0
+
 module _ {V : Type 0} (s : Semiring V) (shown : V → List ℕ) where
+  abbrev replay-said : Result (Point V) Reason → Said
+  replay-said (Ok x) = ran (x .control) (x .length) (shown (x .weight))
+  replay-said (Err e) = stopped (e .number) (e .values)
+
   abbrev performed : Session V → Call V → Said × Session V
   performed c (rule p g p2 w f) =
       let refusal = rule-refusal c p g p2 w in
@@ -50,6 +67,11 @@ module _ {V : Type 0} (s : Semiring V) (shown : V → List ℕ) where
   performed c (question p w) =
       let refusal = question-refusal (is-open (c .table .stage)) c (2 * c .table .sizes .states) p w in
       (unless refusal (answer (shown (asked s c p w)) (is-none (next c))), c)
+  performed c (replay numbers p stack room) =
+      let buffer = buffered stack room in
+      let n = length stack in
+      let refusal = replay-refusal (c .table) (length (c .weights)) p buffer n in
+      (replay-said (refused-or-ran refusal (replayed s (c .table .rules) (c .weights) 0 numbers (start s p n) buffer .0)), c)
 
   -- what a list of calls answers, each on what the one before left
   abbrev pub said : Session V → List (Call V) → List Said

@@ -13,7 +13,7 @@ use Rattle.scale.specs.Minutes.{Time, time, minute-values}
 use Rattle.scale.specs.Flags.{Words, words, flag-values}
 use Rattle.checker.specs.Session.{Session}
 use Rattle.checker.specs.Calls.{opened}
-use Rattle.worked.specs.Performed.{Call, rule, edge, final, settle, question, Said, report, answer, added, said, row}
+use Rattle.worked.specs.Performed.{Call, rule, edge, final, settle, question, replay, Said, report, answer, ran, stopped, added, said, row}
 
 abbrev sizes : Sizes
 sizes = record { controls = 2; states = 3; symbols = 3; limit = 8 }
@@ -57,7 +57,9 @@ minute-rows =
       settle 100 ∷ (rule 0 0 0 [] (Some (time 4)) ∷ (settle 100 ∷ (ask ∷ []))),
       report 8 4 true ∷ (added 4 ∷ (report 2 1 true ∷ (answer (4 ∷ []) true ∷ []))),
     )
-    ∷ [])))))
+    ∷ ((replay (0 ∷ (1 ∷ (2 ∷ []))) 0 (2 ∷ (0 ∷ [])) 3 ∷ [], ran 0 1 (10 ∷ []) ∷ [])
+    ∷ ((replay (0 ∷ (1 ∷ (2 ∷ []))) 0 (2 ∷ (0 ∷ [])) 2 ∷ [], stopped 12 (0 ∷ (0 ∷ (2 ∷ []))) ∷ [])
+    ∷ [])))))))
 
 -- ---- flags
 

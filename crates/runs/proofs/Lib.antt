@@ -1,0 +1,5 @@
+mod Fits
+mod Entries
+mod Words
+mod Steps
+mod Replayed
