@@ -19,14 +19,14 @@ use Rattle.guarantee.proofs.Ranks.{ranks, ranks-set, rank-rises}
 pub place-lt : (z : Sizes) (k q g m : ℕ) → q < k → g < z .symbols → m < z .states → place z q g m < k * z .symbols * z .states
 place-lt z k q g m hq hg hm = digits-lt (digits-lt hq hg) hm
 
-pub record Same-place (q g m q2 g2 m2 : ℕ) : Type 0 where
+pub record Same-place (q g m q2 g2 n2 : ℕ) : Type 0 where
   pub from : q ≡ q2
   pub by : g ≡ g2
-  pub to : m ≡ m2
+  pub to : m ≡ n2
 
-place-same : (z : Sizes) (q g m q2 g2 m2 : ℕ) → g < z .symbols → m < z .states → g2 < z .symbols → m2 < z .states
-    → place z q g m ≡ place z q2 g2 m2 → Same-place q g m q2 g2 m2
-place-same z q g m q2 g2 m2 hg hm hg2 hm2 e =
+place-same : (z : Sizes) (q g m q2 g2 n2 : ℕ) → g < z .symbols → m < z .states → g2 < z .symbols → n2 < z .states
+    → place z q g m ≡ place z q2 g2 n2 → Same-place q g m q2 g2 n2
+place-same z q g m q2 g2 n2 hg hm hg2 hm2 e =
     let row : q * z .symbols + g ≡ q2 * z .symbols + g2 = sym (digits-div _ hm) ∙ (ap (λ x. x / z .states) e ∙ digits-div _ hm2) in
     record {
       from = sym (digits-div _ hg) ∙ (ap (λ x. x / z .symbols) row ∙ digits-div _ hg2);
@@ -94,7 +94,7 @@ module _ {V : Type 0} {s : Semiring V} (laws : Laws s) (z : Sizes) (vs : List V)
         subst (S p g k) (sym (ap (λ j. getD (edge-set s z vs p g k x) j (s .none)) e ∙ edge-here)) here in
         subst (λ q3. S q3 g2 m (edge-at s z (edge-set s z vs p g k x) q g2 m)) (sym (same .from))
         (subst (λ g3. S p g3 m (edge-at s z (edge-set s z vs p g k x) q g2 m)) (sym (same .by))
-        (subst (λ m3. S p g m3 (edge-at s z (edge-set s z vs p g k x) q g2 m)) (sym (same .to)) here2)))
+        (subst (λ n3. S p g n3 (edge-at s z (edge-set s z vs p g k x) q g2 m)) (sym (same .to)) here2)))
         (λ (ne : place z q g2 m ≡ place z p g k → ⊥).
         subst (S q g2 m) (sym (getD-set-other vs (place z p g k) (place z q g2 m) _ (s .none) ne)) (all q g2 m hq hg2 hm))
         (cases-eq (place z q g2 m) (place z p g k))
