@@ -3,6 +3,8 @@ mod astray;
 #[cfg(test)]
 mod bench;
 #[cfg(test)]
+mod pairs;
+#[cfg(test)]
 mod refusals;
 #[cfg(test)]
 mod replay;

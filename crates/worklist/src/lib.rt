@@ -8,6 +8,7 @@ ghost use Rattle.worklist.specs.Sets.{Set, empty, adding, without};
 ghost use Rattle.worklist.specs.Puts.{put-answer};
 
 pub mod mark_table;
+pub mod ring;
 
 // Numbers that wait: a finite set, all below a capacity that never changes.
 pub trait Worklist {
