@@ -45,7 +45,7 @@ fn add_jobs(
 }
 
 // In how few minutes a purge comes after a survey; and again, once a job may skip the survey.
-pub fn run() -> Result<[Line; 4], Refusal> {
+pub(crate) fn run() -> Result<[Line; 4], Refusal> {
     let sizes = Sizes {
         controls: 2,
         states: 3,
