@@ -7,7 +7,7 @@ ghost use Rattle.std.specs.Options.{mapped};
 ghost use Rattle.worklist.specs.Sets.{Set};
 ghost use Rattle.automaton.specs.Limits.{edge-count, all-below};
 ghost use Rattle.checker.specs.Refusals.{reason, told, On-refusal};
-ghost use Rattle.checker.specs.Checks.{is-open, question-refusal};
+ghost use Rattle.checker.specs.Checks.{refused-or, is-open, question-refusal};
 ghost use Rattle.checker.specs.Calls.{asked};
 ghost use Rattle.checker.specs.Did.{Did, question, released-question};
 ghost use Rattle.checker.specs.Views.{session-of, answered, valued};
@@ -57,8 +57,8 @@ impl Record {
         }
     }
 
-    // The weight of a configuration.
-    fn ask<S: Scale>(&self, edges: &[S], scratch: &mut [S], control: usize, word: &[u8]) -> S
+    // The weight of a configuration, where it can be read.
+    fn read<S: Scale>(&self, edges: &[S], scratch: &mut [S], control: usize, word: &[u8]) -> S
         requires edges { ⌜ edge-count (now self .sizes) ≤ length (now edges) ⌝ }
         requires scratch { ⌜ 2 * now self .sizes .states ≤ length (now scratch) ⌝ }
         requires control { ⌜ control < now self .sizes .controls ⌝ }
@@ -66,6 +66,25 @@ impl Record {
         ensures { λ r. ⌜ ((ws : List Value) (w : Set) (m : ℕ) → value r ≡ asked values (session-of (now (self .entry)) (map value (now (edges .entry))) ws w m) control (now (word .entry))) ⌝ }
     {
         read_word(self.sizes, edges, &self.finals, scratch, control, word).unwrap()
+    }
+
+    // The weight of a configuration, or why it is not answered; `staged` says whether the record's stage allows it.
+    fn ask<S: Scale>(
+        &self,
+        staged: bool,
+        edges: &[S],
+        scratch: &mut [S],
+        control: usize,
+        word: &[u8],
+    ) -> Result<S, Refusal>
+        ensures answer { λ r. ⌜ ((ws : List Value) (w : Set) (m : ℕ) → told (valued value r) ≡ refused-or (question-refusal staged (session-of (now (self .entry)) (map value (now (edges .entry))) ws w m) (length (now (scratch .entry))) control (now (word .entry))) (asked values (session-of (now (self .entry)) (map value (now (edges .entry))) ws w m) control (now (word .entry)))) ⌝ }
+        ensures refused { λ r. ⌜ On-refusal r (now (scratch .exit) ≡ now (scratch .entry)) ⌝ }
+        ensures scratch { λ _. ⌜ length (now (scratch .exit)) ≡ length (now (scratch .entry)) ⌝ }
+    {
+        if let Some(refusal) = self.question_refusal(staged, edges, scratch.len(), control, word) {
+            return Err(refusal);
+        }
+        Ok(self.read(edges, scratch, control, word))
     }
 
     // The weight of a configuration so far, and whether the session is settled.
@@ -81,18 +100,13 @@ impl Record {
         ensures refused { λ r. ⌜ On-refusal r (now (scratch .exit) ≡ now (scratch .entry)) ⌝ }
         ensures scratch { λ _. ⌜ length (now (scratch .exit)) ≡ length (now (scratch .entry)) ⌝ }
     {
-        if let Some(refusal) = self.question_refusal(
-            self.is_open(),
-            edges,
-            scratch.len(),
-            control,
-            word,
-        ) {
-            return Err(refusal);
+        match self.ask(self.is_open(), edges, scratch, control, word) {
+            Ok(weight) => {
+                let settled = worklist.is_empty();
+                Ok(Answer { weight, settled })
+            }
+            Err(refusal) => Err(refusal),
         }
-        let weight = self.ask(edges, scratch, control, word);
-        let settled = worklist.is_empty();
-        Ok(Answer { weight, settled })
     }
 
     // The weight of a configuration, after the release.
@@ -108,15 +122,6 @@ impl Record {
         ensures refused { λ r. ⌜ On-refusal r (now (scratch .exit) ≡ now (scratch .entry)) ⌝ }
         ensures scratch { λ _. ⌜ length (now (scratch .exit)) ≡ length (now (scratch .entry)) ⌝ }
     {
-        if let Some(refusal) = self.question_refusal(
-            self.is_released(),
-            edges,
-            scratch.len(),
-            control,
-            word,
-        ) {
-            return Err(refusal);
-        }
-        Ok(self.ask(edges, scratch, control, word))
+        self.ask(self.is_released(), edges, scratch, control, word)
     }
 }

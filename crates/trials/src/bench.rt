@@ -5,7 +5,11 @@ use checker::passes::Editing;
 use checker::record::Record;
 use checker::refusals::Refusal;
 use scale::Scale;
+use scale::minutes::Minutes;
+use scale::minutes::MinutesScale;
 use worklist::Worklist;
+use worklist::mark_table::MarkTable;
+use worklist::mark_table::MarkTableWorklist;
 
 pub const SIZES: Sizes = Sizes {
     controls: 2,
@@ -104,4 +108,16 @@ impl<S: Scale, K: Worklist + Drop> Bench<S, K> {
         self.edge(0, 2, 2, S::one())?;
         self.mark_final(2)
     }
+}
+
+// The worked table with its minutes, over the mark table.
+pub fn worked() -> Result<Bench<Minutes, MarkTable>, Refusal> {
+    let mut b = Bench::open(MarkTable::new())?;
+    b.add_worked([
+        Minutes::new(5),
+        Minutes::new(2),
+        Minutes::new(3),
+        Minutes::new(1),
+    ])?;
+    Ok(b)
 }

@@ -98,11 +98,21 @@ fn all_same<S: Scale>(first: &[S], second: &[S]) -> bool {
     true
 }
 
+// Checks a scale's weights over the mark table and over a ring.
+macro_rules! check_worked {
+    ($none:expr, $given:expr) => {{
+        let none = $none;
+        let mut slots = [7; 9];
+        let mut marks = MarkTable::new();
+        let mut ring = Ring::new(&mut slots);
+        check(worked(&mut [none; 27], &mut [none; 8], &mut [none; 6], &mut marks, $given)?)?;
+        check(worked(&mut [none; 27], &mut [none; 8], &mut [none; 6], &mut ring, $given)?)?;
+    }};
+}
+
 #[test]
 fn worked_over_each_scale_and_worklist() -> Result<(), Fail> {
-    let mut slots = [7; 9];
-    let n = Minutes::none();
-    let m = [
+    let minutes = [
         Minutes::new(5),
         Minutes::new(2),
         Minutes::new(3),
@@ -111,67 +121,13 @@ fn worked_over_each_scale_and_worklist() -> Result<(), Fail> {
         Minutes::new(10),
         Minutes::new(4),
     ];
-    check(
-        worked(
-            &mut [n; 27],
-            &mut [n; 8],
-            &mut [n; 6],
-            &mut MarkTable::new(),
-            &m,
-        )?,
-    )?;
-    check(
-        worked(
-            &mut [n; 27],
-            &mut [n; 8],
-            &mut [n; 6],
-            &mut Ring::new(&mut slots),
-            &m,
-        )?,
-    )?;
-    let y = [YesNo::one(); 7];
-    let n = YesNo::none();
-    check(
-        worked(
-            &mut [n; 27],
-            &mut [n; 8],
-            &mut [n; 6],
-            &mut MarkTable::new(),
-            &y,
-        )?,
-    )?;
-    check(
-        worked(
-            &mut [n; 27],
-            &mut [n; 8],
-            &mut [n; 6],
-            &mut Ring::new(&mut slots),
-            &y,
-        )?,
-    )?;
+    check_worked!(Minutes::none(), &minutes);
+    check_worked!(YesNo::none(), &[YesNo::one(); 7]);
     let one = Flags::one();
     let sets = Flags::new(0xffff_ffff, 1);
     let clears = Flags::new(0xffff_fffe, 0);
-    let f = [sets, one, clears, one, sets, clears, sets];
-    let n = Flags::none();
-    check(
-        worked(
-            &mut [n; 27],
-            &mut [n; 8],
-            &mut [n; 6],
-            &mut MarkTable::new(),
-            &f,
-        )?,
-    )?;
-    check(
-        worked(
-            &mut [n; 27],
-            &mut [n; 8],
-            &mut [n; 6],
-            &mut Ring::new(&mut slots),
-            &f,
-        )?,
-    )
+    check_worked!(Flags::none(), &[sets, one, clears, one, sets, clears, sets]);
+    Ok(())
 }
 
 #[test]

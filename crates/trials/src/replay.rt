@@ -1,23 +1,8 @@
-use crate::bench::Bench;
+use crate::bench::worked;
 use checker::refusals::Refusal;
 use checker::refusals::RefusalDebug;
-use scale::Scale;
-use scale::minutes::Minutes;
 use scale::minutes::MinutesScale;
 use std::test::*;
-use worklist::mark_table::MarkTable;
-use worklist::mark_table::MarkTableWorklist;
-
-fn worked() -> Result<Bench<Minutes, MarkTable>, Refusal> {
-    let mut b = Bench::open(MarkTable::new())?;
-    b.add_worked([
-        Minutes::new(5),
-        Minutes::new(2),
-        Minutes::new(3),
-        Minutes::new(1),
-    ])?;
-    Ok(b)
-}
 
 #[test]
 fn runs_to_the_target() -> Result<(), Fail> {

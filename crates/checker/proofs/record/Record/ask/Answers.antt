@@ -1,30 +1,37 @@
-use mathlib.Core.Path.{_≡_, sym, ap, _∙_}
-use mathlib.Core.Bool.{true}
-use mathlib.Core.List.{List}
-use Prim.Native.Nat.{ℕ, _*_, _<_, _≤_}
+use mathlib.Core.Path.{_≡_, refl, sym}
+use mathlib.Core.List.{[], map}
 use native.Mathlib.Omega.{arith}
 use lib.ListN.{length}
-use Rattle.std.specs.Options.{mapped}
-use Rattle.automaton.specs.Limits.{edge-count, all-below, read-fits}
-use Rattle.automaton.proofs.Bounds.{states-bound, controls-bound, fit-from, read-within}
-use Rattle.automaton.proofs.Options.{given-some, mapped-given}
-use Rattle.checker.specs.declared.record.Record.{Record}
+use Rattle.std.proofs.shelf.Lists.{length-map}
+use Rattle.worklist.specs.Sets.{empty}
+use Rattle.checker.specs.Refusals.{reason}
+use Rattle.checker.specs.Views.{session-of}
+use Rattle.checker.proofs.Refusing.{refused-as, accepted-as, question-edges, question-scratch, question-control, question-word}
 use Rattle.checker.proofs.record.Record.ask.Needs as need
 
--- an accepted question can be read
-fits : (r : Record) (edges finals scratch p : ℕ) (w : List ℕ) → finals ≡ 64 → edge-count (r .sizes) ≤ edges → 2 * r .sizes .states ≤ scratch → p < r .sizes .controls → all-below (r .sizes .symbols) w ≡ true
-    → read-fits (r .sizes) edges finals scratch p w ≡ true
-fits r edges finals scratch p w marks enough long control below =
-    let few = controls-bound (r .sizes) (r .allowed) in
-    let most = states-bound (r .sizes) (r .allowed) in
-    read-within (r .sizes) edges finals scratch p w (fit-from (r .sizes) edges (r .allowed) enough) (omega arith) long (omega arith) below
-
-pub unwrap-requires : need.unwrap-requires
-unwrap-requires g c κs =
+pub read-requires : need.read-requires
+read-requires g c κs =
     let a = c .args in
-    mapped-given (g .S·Scale .value) _ _ (c .read-word .result) (c .read-word .ensures .weight)
-    (fits (a .self .now) _ _ _ (a .control) (a .word .now) (omega arith) (c .pre .edges) (c .pre .scratch) (c .pre .control) (c .pre .word))
+    let before = session-of (a .self .now) (map (g .S·Scale .value) (a .edges .now)) [] empty 0 in
+    let n = length (a .scratch .now) in
+    let accepted = sym (c .in-rest .ensures tt [] empty 0) in
+    record {
+      edges = rw length-map at (question-edges before (a .staged) n (a .control) (a .word .now) accepted);
+      scratch = question-scratch before (a .staged) n (a .control) (a .word .now) accepted;
+      control = question-control before (a .staged) n (a .control) (a .word .now) accepted;
+      word = question-word before (a .staged) n (a .control) (a .word .now) accepted;
+    }
+
+pub returns-in-Some : need.returns-in-Some
+returns-in-Some g c = record {
+  answer = λ ws w m. refused-as _ (reason (c .in-Some .refusal)) _ (sym (c .in-Some .ensures tt ws w m));
+  refused = refl;
+  scratch = refl;
+}
 
 pub returns : need.returns
-returns g c = λ ws w m.
-    given-some _ _ (g .S·Scale .value (c .unwrap .result)) (ap (mapped (g .S·Scale .value)) (sym (c .unwrap .ensures)) ∙ c .read-word .ensures .weight) .1
+returns g c = record {
+  answer = λ ws w m. accepted-as _ _ _ (sym (c .in-rest .ensures tt ws w m)) (c .read .ensures ws w m);
+  refused = tt;
+  scratch = omega arith;
+}

@@ -1,42 +1,15 @@
 use mathlib.Core.Path.{_≡_, refl, sym, ap, _∙_}
 use mathlib.Core.Bool.{Bool}
-use mathlib.Core.List.{[], map}
-use native.Mathlib.Omega.{arith}
+use mathlib.Core.List.{map}
 use lib.ListN.{length}
-use Rattle.std.proofs.shelf.Lists.{length-map}
-use Rattle.worklist.specs.Sets.{empty}
+use Rattle.checker.specs.Refusals.{reason}
 use Rattle.checker.specs.Checks.{question-refusal}
 use Rattle.checker.specs.Views.{session-of}
-use Rattle.checker.proofs.Refusing.{question-edges, question-scratch, question-control, question-word}
+use Rattle.checker.proofs.Refusing.{was-refused, was-accepted}
 use Rattle.checker.proofs.record.Record.question.Needs as need
 
-pub ask-weight-requires : need.ask-weight-requires
-ask-weight-requires g c κs =
-    let a = c .args in
-    let before = session-of (a .self .now) (map (g .S·Scale .value) (a .edges .now)) [] empty 0 in
-    let n = length (a .scratch .now) in
-    let accepted = sym (c .in-rest .ensures tt [] empty 0) in
-    record {
-      edges = rw length-map at (question-edges before (c .is-open .result) n (a .control) (a .word .now) accepted);
-      scratch = question-scratch before (c .is-open .result) n (a .control) (a .word .now) accepted;
-      control = question-control before (c .is-open .result) n (a .control) (a .word .now) accepted;
-      word = question-word before (c .is-open .result) n (a .control) (a .word .now) accepted;
-    }
-
-pub returns-in-Some : need.returns-in-Some
-returns-in-Some g c = record {
-  did = λ ws.
-      let a = c .args in
-      let k = g .K·Worklist in
-      let before = session-of (a .self .now) (map (g .S·Scale .value) (a .edges .now)) ws (k .waiting (a .worklist .now)) (k .room (a .worklist .now)) in
-      let stage = ap (λ (b : Bool). question-refusal b before (length (a .scratch .now)) (a .control) (a .word .now)) (c .is-open .ensures) in
-      (refl, sym stage ∙ sym (c .in-Some .ensures tt ws (k .waiting (a .worklist .now)) (k .room (a .worklist .now))));
-  refused = refl;
-  scratch = refl;
-}
-
-pub returns : need.returns
-returns g c = record {
+pub returns-in-Ok : need.returns-in-Ok
+returns-in-Ok g c = record {
   did = λ ws.
       let a = c .args in
       let k = g .K·Worklist in
@@ -44,7 +17,22 @@ returns g c = record {
       let m = k .room (a .worklist .now) in
       let before = session-of (a .self .now) (map (g .S·Scale .value) (a .edges .now)) ws w m in
       let stage = ap (λ (b : Bool). question-refusal b before (length (a .scratch .now)) (a .control) (a .word .now)) (c .is-open .ensures) in
-      (refl, (sym stage ∙ sym (c .in-rest .ensures tt ws w m), c .ask-weight .ensures ws w m, c .is-empty-settled .ensures));
+      let known = was-accepted _ _ _ (c .in-Ok .ensures tt .answer ws w m) in
+      (refl, (sym stage ∙ known .0, known .1, c .is-empty-settled .ensures));
   refused = tt;
-  scratch = omega arith;
+  scratch = c .in-Ok .ensures tt .scratch;
+}
+
+pub returns-in-Err : need.returns-in-Err
+returns-in-Err g c = record {
+  did = λ ws.
+      let a = c .args in
+      let k = g .K·Worklist in
+      let w = k .waiting (a .worklist .now) in
+      let m = k .room (a .worklist .now) in
+      let before = session-of (a .self .now) (map (g .S·Scale .value) (a .edges .now)) ws w m in
+      let stage = ap (λ (b : Bool). question-refusal b before (length (a .scratch .now)) (a .control) (a .word .now)) (c .is-open .ensures) in
+      (refl, sym stage ∙ was-refused _ (reason (c .in-Err .refusal)) _ (c .in-Err .ensures tt .answer ws w m));
+  refused = c .in-Err .ensures tt .refused;
+  scratch = c .in-Err .ensures tt .scratch;
 }
