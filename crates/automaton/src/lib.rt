@@ -1,3 +1,5 @@
+#![tactic(auto)]
+
 pub mod edges;
 pub mod reading;
 pub mod rules;

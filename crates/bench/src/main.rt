@@ -1,3 +1,5 @@
+#![tactic(auto)]
+
 mod numbers;
 mod samples;
 mod session;

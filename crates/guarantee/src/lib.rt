@@ -1,3 +1,5 @@
+#![tactic(auto)]
+
 ghost use Rattle.guarantee.specs.Histories.{held};
 ghost use Rattle.guarantee.specs.Promises.{Promises};
 

@@ -1,3 +1,5 @@
+#![tactic(auto)]
+
 use checker::passes::{Editing, HandedBack, Released};
 use checker::record::Record;
 use scale::Scale;

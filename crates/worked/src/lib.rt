@@ -1,3 +1,5 @@
+#![tactic(auto)]
+
 ghost use Rattle.worked.specs.Rows.{RowsHold};
 ghost use Rattle.worked.specs.Smallest.{MaySettleSo};
 

@@ -1,6 +1,6 @@
 -- Lists of numbers that stand once, as sets.
 use Rattle.std.proofs.Common.{◌≡◌, ℕ, ◌<◌, Bool, true, false, not, ◌&&◌, ◌||◌, eqb, ltb, List, [], ◌∷◌, ◌++◌, sym, refl, ap, ◌∙◌, ⊎_elim, arith}
-use Rattle.std.proofs.lemmas.Bool.{and_parts, and_from, and_right, or_parts, or_cases, not-true, not_from_true, false≢true, ltb-true, eqb-true, eq-eqb, ne_eqb, cases_eq}
+use Rattle.std.proofs.lemmas.Bool.{and_parts, and_from, and_right, or_parts, not-true, not_from_true, eq-eqb, ne_eqb, cases_eq}
 use Rattle.std.proofs.lemmas.Bool.Decides.{nat_tests}
 use Rattle.worklist.specs.Sets.{adding}
 use Rattle.worklist.specs.Rings.{member, all_below, distinct}
@@ -39,12 +39,3 @@ member_rest x xs m h =
     (λ (e : m ≡ x). ap (member xs) e ∙ gone ∙ sym (and_right (member (x ∷ xs) m) (not (eqb m x)) (not_from_true (eqb m x) (eq-eqb m x e))))
     (λ (e : m ≡ x → ⊥). let other = ne_eqb m x e in grind (arith, nat_tests))
     (cases_eq m x)
-
-pub member_below : (c : ℕ) (xs : List ℕ) (n : ℕ) → all_below c xs ≡ true → member xs n ≡ true → n < c
-member_below c [] n h e = absurd (false≢true e)
-member_below c (x ∷ xs) n h e =
-    let parts = and_parts (ltb x c) (all_below c xs) h in
-    ⊎_elim
-    (λ (later : member xs n ≡ true). member_below c xs n parts.1 later)
-    (λ (first : eqb n x ≡ true). omega (arith, ltb-true x c parts.0, eqb-true n x first))
-    (or_cases (member xs n) (eqb n x) e)

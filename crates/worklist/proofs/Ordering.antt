@@ -13,7 +13,7 @@ pub put_order : (slots : List ℕ) (head len : ℕ) (marks : List Bool) (at n : 
 put_order slots head len marks at n kept place within new =
     let before : List ℕ = queue slots head len in
     let goes = and_from (ltb n (used slots)) (not (member before n)) (lt-ltb n (used slots) within) (not_from_false (member before n) new) in
-    queue_push slots head len at n place kept.0 (put_fits slots head len marks n kept within new)
+    queue_push slots head len at n place kept.starts (put_fits slots head len marks n kept within new)
     ∙ sym (cond-true (ltb n (used slots) && not (member before n)) (before ++ n ∷ []) before goes)
 
 -- a number that waits already changes nothing

@@ -1,3 +1,4 @@
 pub mod Sets
 pub mod Puts
 pub mod Rings
+pub mod Members

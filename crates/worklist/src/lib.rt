@@ -1,3 +1,5 @@
+#![tactic(auto)]
+
 ghost use Rattle.std.specs.Prelude.{◌≡◌, ℕ, ◌<◌, true, false, ltb, if◌then◌else◌, Decides, MatchOption, nat_lt};
 ghost use Rattle.worklist.specs.Sets.{Set, empty, adding, without};
 ghost use Rattle.worklist.specs.Puts.{put_answer};

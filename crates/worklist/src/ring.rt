@@ -1,6 +1,7 @@
 ghost use Rattle.std.specs.Prelude.{◌≡◌, ℕ, ◌-◌, ◌<◌, ◌≤◌, min, true, false, ltb, [], length, if◌then◌else◌, MatchOption, nat_lt};
 ghost use Rattle.worklist.specs.Sets.{empty, adding, without, marked};
 ghost use Rattle.worklist.specs.Puts.{put_answer};
+ghost use Rattle.worklist.specs.Members.{member_below};
 ghost use Rattle.worklist.specs.Rings.{used, around, queue, member, all_below, distinct, after_put, Taken};
 
 use crate::Worklist;
@@ -56,6 +57,8 @@ impl Worklist for Ring<'_> {
     ghost room = { λ r. used r.slots.now };
 
     ghost waiting = { λ r. member (queue r.slots.now r.head r.len) };
+
+    ghost within = { λ r n waits. member_below (used r.slots.now) (queue r.slots.now r.head r.len) n r.low waits };
 
     fn capacity(&self) -> usize {
         let count = self.slots.len();

@@ -1,6 +1,5 @@
-use Rattle.std.proofs.Common.{◌≡◌, ◌<◌, true, false, sym, ap, ◌∙◌, arith}
+use Rattle.std.proofs.Common.{◌<◌, sym, ap, ◌∙◌, arith}
 use Rattle.std.proofs.lemmas.Bool.{false≢true}
-use Rattle.worklist.specs.Sets.{marked, empty}
 use Rattle.worklist.proofs.Marks.{mark_at}
 use Rattle.worklist.proofs.mark_table.MarkTableWorklist.is_empty.Goals as goal
 

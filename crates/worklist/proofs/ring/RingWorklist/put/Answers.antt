@@ -6,8 +6,8 @@ use Rattle.worklist.proofs.Ordering.{put_order, put_set}
 use Rattle.worklist.proofs.Queue.{used_set}
 use Rattle.worklist.proofs.ring.RingWorklist.put.Goals as goal
 
-pub invariant-of-self : goal.invariant-of-self
-invariant-of-self c =
+pub invariant_of-self : goal.invariant_of-self
+invariant_of-self c =
     let ring = c.args.self.now in
     let slots = ring.slots.now in
     let n = c.args.number in

@@ -10,8 +10,8 @@ bounds-self-number c =
     let ring = c.args.self.now in
     omega (arith, first_below ring.slots.now ring.head ring.len ring.marks (kept_by ring) (omega arith))
 
-pub invariant-of-self : goal.invariant-of-self
-invariant-of-self c =
+pub invariant_of-self : goal.invariant_of-self
+invariant_of-self c =
     let ring = c.args.self.now in
     let place = c.around-self.ensures ∙ ap (λ k. around k (ring.head + 1)) c.capacity-capacity.ensures in
     let full : length ring.marks ≡ 512 = omega arith in
