@@ -1,5 +1,5 @@
 -- Places of edges, and the values of weights that are read there.
-use Rattle.std.proofs.Common.{◌≡◌, ℕ, ◌+◌, ◌*◌, ◌<◌, ◌≤◌, true, List, map, length, get_or, sym, ap, ◌∙◌, subst, mul_assoc, arith}
+use Rattle.std.proofs.Common.{◌≡◌, ℕ, ◌+◌, ◌*◌, ◌<◌, true, List, map, length, get_or, sym, ap, ◌∙◌, subst, mul_assoc, arith}
 use Rattle.std.proofs.lemmas.Nat.{mul-add-lt}
 use Rattle.std.proofs.lemmas.List.{get_or-map}
 use Rattle.scale.specs.Semiring.{Semiring}

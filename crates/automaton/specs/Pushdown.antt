@@ -1,5 +1,5 @@
 -- Pushdown systems: rules, configurations and runs.
-use Rattle.std.specs.Prelude.{ℕ, zero, suc, Bool, true, false, cond, ◌&&◌, ◌||◌, List, [], ◌∷◌, ◌++◌, Some, None, Option, ◌==◌, slice_index_or}
+use Rattle.std.specs.Prelude.{ℕ, zero, suc, Bool, false, cond, ◌&&◌, ◌||◌, List, [], ◌∷◌, ◌++◌, Some, None, Option, ◌==◌, slice_index_or}
 use Rattle.scale.specs.Semiring.{Semiring}
 use Rattle.automaton.specs.declared.rules.Word.{Word}
 use Rattle.automaton.specs.declared.rules.Word.TheVariants.{Pop, Swap, Push}

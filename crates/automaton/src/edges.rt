@@ -19,7 +19,7 @@ fn spot(sizes: Sizes, from: usize, symbol: usize, to: usize) -> usize
 pub(crate) fn edge<S: Scale>(sizes: Sizes, edges: &[S], from: usize, symbol: usize, to: usize) -> S
     requires room { edges_fit sizes (length edges.now) ≡ true }
     requires fits { edge_fits sizes from symbol to ≡ true }
-    ensures { value result ≡ edge_at values sizes (map value edges.now) from symbol to }
+    ensures { S.value result ≡ edge_at S.values sizes (map S.value edges.now) from symbol to }
 {
     edges[spot(sizes, from, symbol, to)]
 }
@@ -35,8 +35,8 @@ pub(crate) fn raise_edge<S: Scale>(
 ) -> bool
     requires room { edges_fit sizes (length edges.old) ≡ true }
     requires fits { edge_fits sizes from symbol to ≡ true }
-    ensures edges { map value edges.new ≡ edge_set values sizes (map value edges.old) from symbol to (value weight) }
-    ensures changed { result ≡ edge_changes values sizes (map value edges.old) from symbol to (value weight) }
+    ensures edges { map S.value edges.new ≡ edge_set S.values sizes (map S.value edges.old) from symbol to (S.value weight) }
+    ensures changed { result ≡ edge_changes S.values sizes (map S.value edges.old) from symbol to (S.value weight) }
     ensures rest { drop (edge_count sizes) edges.new ≡ drop (edge_count sizes) edges.old }
 {
     let old = edge(sizes, edges, from, symbol, to);
@@ -54,8 +54,8 @@ pub fn combine_into<S: Scale>(
     to: usize,
     weight: S,
 ) -> Option<bool>
-    ensures changed { result ≡ only_if (edges_fit sizes (length edges.old) && edge_fits sizes from symbol to) (edge_changes values sizes (map value edges.old) from symbol to (value weight)) }
-    ensures edges { map value edges.new ≡ (if edges_fit sizes (length edges.old) && edge_fits sizes from symbol to then edge_set values sizes (map value edges.old) from symbol to (value weight) else map value edges.old) }
+    ensures changed { result ≡ only_if (edges_fit sizes (length edges.old) && edge_fits sizes from symbol to) (edge_changes S.values sizes (map S.value edges.old) from symbol to (S.value weight)) }
+    ensures edges { map S.value edges.new ≡ (if edges_fit sizes (length edges.old) && edge_fits sizes from symbol to then edge_set S.values sizes (map S.value edges.old) from symbol to (S.value weight) else map S.value edges.old) }
     ensures refused { (edges_fit sizes (length edges.old) && edge_fits sizes from symbol to) ≡ false → edges.new ≡ edges.old }
     ensures rest { drop (edge_count sizes) edges.new ≡ drop (edge_count sizes) edges.old }
 {
@@ -73,7 +73,7 @@ pub fn combine_into<S: Scale>(
 // Writes none into the first places.
 fn clear_places<S: Scale>(count: usize, edges: &mut [S])
     requires { count ≤ length edges.old }
-    ensures cleared { map value edges.new ≡ replicate count values.none ++ drop count (map value edges.old) }
+    ensures cleared { map S.value edges.new ≡ replicate count S.values.none ++ drop count (map S.value edges.old) }
     ensures rest { drop count edges.new ≡ drop count edges.old }
 {
     for place in 0..count {
@@ -84,7 +84,7 @@ fn clear_places<S: Scale>(count: usize, edges: &mut [S])
 // Sets every edge to none; nothing is done where the edges do not fit.
 pub fn clear_edges<S: Scale>(sizes: Sizes, edges: &mut [S]) -> Option<()>
     ensures done { result ≡ only_if (edges_fit sizes (length edges.old)) tt }
-    ensures edges { map value edges.new ≡ (if edges_fit sizes (length edges.old) then replicate (edge_count sizes) values.none ++ drop (edge_count sizes) (map value edges.old) else map value edges.old) }
+    ensures edges { map S.value edges.new ≡ (if edges_fit sizes (length edges.old) then replicate (edge_count sizes) S.values.none ++ drop (edge_count sizes) (map S.value edges.old) else map S.value edges.old) }
     ensures refused { edges_fit sizes (length edges.old) ≡ false → edges.new ≡ edges.old }
     ensures rest { drop (edge_count sizes) edges.new ≡ drop (edge_count sizes) edges.old }
 {

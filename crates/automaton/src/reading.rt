@@ -26,7 +26,7 @@ pub fn all_below(number: usize, word: &[u8]) -> bool
 fn start_row<S: Scale>(states: usize, finals: &[bool], scratch: &mut [S])
     requires finals { states ≤ length finals.now }
     requires scratch { states ≤ length scratch.old }
-    ensures { (k : ℕ) → k < states → at_place values (map value scratch.new) k ≡ combined values (if slice_index_or finals.now k false then values.one ∷ [] else []) }
+    ensures { (k : ℕ) → k < states → at_place S.values (map S.value scratch.new) k ≡ combined S.values (if slice_index_or finals.now k false then S.values.one ∷ [] else []) }
 {
     for state in 0..states {
         scratch[state] = if finals[state] { S::one() } else { S::none() };
@@ -39,7 +39,7 @@ fn onward_weight<S: Scale>(sizes: Sizes, edges: &[S], row: &[S], from: usize, sy
     requires from { from < sizes.states }
     requires symbol { symbol < sizes.symbols }
     requires row { sizes.states ≤ length row.now }
-    ensures { value result ≡ combined values (below sizes.states (onward values (edge_at values sizes (map value edges.now)) (at_place values (map value row.now)) from symbol)) }
+    ensures { S.value result ≡ combined S.values (below sizes.states (onward S.values (edge_at S.values sizes (map S.value edges.now)) (at_place S.values (map S.value row.now)) from symbol)) }
 {
     let mut sum = S::none();
     for to in 0..sizes.states {
@@ -53,7 +53,7 @@ fn extend_row<S: Scale>(sizes: Sizes, edges: &[S], scratch: &mut [S], symbol: us
     requires room { edges_fit sizes (length edges.now) ≡ true }
     requires symbol { symbol < sizes.symbols }
     requires scratch { 2 * sizes.states ≤ length scratch.old }
-    ensures { (k : ℕ) → k < sizes.states → at_place values (map value scratch.new) (sizes.states + k) ≡ combined values (below sizes.states (onward values (edge_at values sizes (map value edges.now)) (at_place values (map value scratch.old)) k symbol)) }
+    ensures { (k : ℕ) → k < sizes.states → at_place S.values (map S.value scratch.new) (sizes.states + k) ≡ combined S.values (below sizes.states (onward S.values (edge_at S.values sizes (map S.value edges.now)) (at_place S.values (map S.value scratch.old)) k symbol)) }
 {
     for from in 0..sizes.states {
         let weight = onward_weight(sizes, edges, scratch, from, symbol);
@@ -64,7 +64,7 @@ fn extend_row<S: Scale>(sizes: Sizes, edges: &[S], scratch: &mut [S], symbol: us
 // Copies the second half of the scratch into the first.
 fn keep_row<S: Scale>(states: usize, scratch: &mut [S])
     requires { 2 * states ≤ length scratch.old }
-    ensures { (k : ℕ) → k < states → at_place values (map value scratch.new) k ≡ at_place values (map value scratch.old) (states + k) }
+    ensures { (k : ℕ) → k < states → at_place S.values (map S.value scratch.new) k ≡ at_place S.values (map S.value scratch.old) (states + k) }
 {
     for state in 0..states {
         scratch[state] = scratch[states + state];
@@ -77,7 +77,7 @@ fn fold_word<S: Scale>(sizes: Sizes, edges: &[S], finals: &[bool], scratch: &mut
     requires word { all_below sizes.symbols word.now ≡ true }
     requires finals { sizes.states ≤ length finals.now }
     requires scratch { 2 * sizes.states ≤ length scratch.old }
-    ensures { (k : ℕ) → k < sizes.states → at_place values (map value scratch.new) k ≡ answer values (edge_at values sizes (map value edges.now)) sizes.states (λ q. slice_index_or finals.now q false) k word.now }
+    ensures { (k : ℕ) → k < sizes.states → at_place S.values (map S.value scratch.new) k ≡ answer S.values (edge_at S.values sizes (map S.value edges.now)) sizes.states (λ q. slice_index_or finals.now q false) k word.now }
 {
     start_row(sizes.states, finals, scratch);
     for place in (0..word.len()).rev() {
@@ -114,7 +114,7 @@ pub fn read_word<S: Scale>(
     from: usize,
     word: &[u8],
 ) -> Option<S>
-    ensures weight { option_map value result ≡ only_if (read_fits sizes (length edges.now) (length finals.now) (length scratch.old) from word.now) (answer values (edge_at values sizes (map value edges.now)) sizes.states (λ q. slice_index_or finals.now q false) from word.now) }
+    ensures weight { option_map S.value result ≡ only_if (read_fits sizes (length edges.now) (length finals.now) (length scratch.old) from word.now) (answer S.values (edge_at S.values sizes (map S.value edges.now)) sizes.states (λ q. slice_index_or finals.now q false) from word.now) }
     ensures refused { read_fits sizes (length edges.now) (length finals.now) (length scratch.old) from word.now ≡ false → scratch.new ≡ scratch.old }
     ensures length { length scratch.new ≡ length scratch.old }
 {

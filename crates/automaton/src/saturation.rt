@@ -24,7 +24,7 @@ fn through_middle<S: Scale>(
     requires first { first < sizes.symbols }
     requires second { second < sizes.symbols }
     requires to { to < sizes.states }
-    ensures { value result ≡ combined values (below sizes.states (λ m. values.extend (values.extend (value weight) (edge_at values sizes (map value edges.now) from first m)) (edge_at values sizes (map value edges.now) m second to))) }
+    ensures { S.value result ≡ combined S.values (below sizes.states (λ m. S.values.extend (S.values.extend (S.value weight) (edge_at S.values sizes (map S.value edges.now) from first m)) (edge_at S.values sizes (map S.value edges.now) m second to))) }
 {
     let mut sum = S::none();
     for middle in 0..sizes.states {
@@ -42,7 +42,7 @@ fn rule_value<S: Scale>(sizes: Sizes, edges: &[S], rule: Rule, weight: S, to: us
     requires room { edges_fit sizes (length edges.now) ≡ true }
     requires fits { rule_fits sizes rule ≡ true }
     requires to { to < sizes.states }
-    ensures { value result ≡ value_at values sizes rule (value weight) (map value edges.now) to }
+    ensures { S.value result ≡ value_at S.values sizes rule (S.value weight) (map S.value edges.now) to }
 {
     match rule.word {
         Word::Pop => { if to == rule.target { weight } else { S::none() } }
@@ -64,8 +64,8 @@ fn look_at<S: Scale>(sizes: Sizes, edges: &mut [S], rule: Rule, weight: S, to: u
     requires room { edges_fit sizes (length edges.old) ≡ true }
     requires fits { rule_fits sizes rule ≡ true }
     requires to { to < sizes.states }
-    ensures edges { map value edges.new ≡ edge_set values sizes (map value edges.old) rule.control rule.symbol to (value_at values sizes rule (value weight) (map value edges.old) to) }
-    ensures changed { result ≡ edge_changes values sizes (map value edges.old) rule.control rule.symbol to (value_at values sizes rule (value weight) (map value edges.old) to) }
+    ensures edges { map S.value edges.new ≡ edge_set S.values sizes (map S.value edges.old) rule.control rule.symbol to (value_at S.values sizes rule (S.value weight) (map S.value edges.old) to) }
+    ensures changed { result ≡ edge_changes S.values sizes (map S.value edges.old) rule.control rule.symbol to (value_at S.values sizes rule (S.value weight) (map S.value edges.old) to) }
     ensures rest { drop (edge_count sizes) edges.new ≡ drop (edge_count sizes) edges.old }
 {
     let worth = rule_value(sizes, edges, rule, weight, to);
@@ -76,8 +76,8 @@ fn look_at<S: Scale>(sizes: Sizes, edges: &mut [S], rule: Rule, weight: S, to: u
 fn look_at_all<S: Scale>(sizes: Sizes, edges: &mut [S], rule: Rule, weight: S) -> u64
     requires room { edges_fit sizes (length edges.old) ≡ true }
     requires fits { rule_fits sizes rule ≡ true }
-    ensures edges { map value edges.new ≡ (saturated values sizes rule (value weight) (map value edges.old) sizes.states).0 }
-    ensures raises { result ≡ (saturated values sizes rule (value weight) (map value edges.old) sizes.states).1 }
+    ensures edges { map S.value edges.new ≡ (saturated S.values sizes rule (S.value weight) (map S.value edges.old) sizes.states).0 }
+    ensures raises { result ≡ (saturated S.values sizes rule (S.value weight) (map S.value edges.old) sizes.states).1 }
     ensures few { result ≤ sizes.states }
     ensures rest { drop (edge_count sizes) edges.new ≡ drop (edge_count sizes) edges.old }
 {
@@ -93,9 +93,9 @@ fn look_at_all<S: Scale>(sizes: Sizes, edges: &mut [S], rule: Rule, weight: S) -
 // One step of a rule: its edges to all states, in rising order; how many of them changed. Nothing is done where the
 // edges or the rule do not fit the sizes.
 pub fn saturate<S: Scale>(sizes: Sizes, edges: &mut [S], rule: Rule, weight: S) -> Option<u64>
-    ensures raises { result ≡ only_if (edges_fit sizes (length edges.old) && rule_fits sizes rule) (saturated values sizes rule (value weight) (map value edges.old) sizes.states).1 }
+    ensures raises { result ≡ only_if (edges_fit sizes (length edges.old) && rule_fits sizes rule) (saturated S.values sizes rule (S.value weight) (map S.value edges.old) sizes.states).1 }
     ensures few { IfSome result (λ n. n ≤ sizes.states) }
-    ensures edges { map value edges.new ≡ (if edges_fit sizes (length edges.old) && rule_fits sizes rule then (saturated values sizes rule (value weight) (map value edges.old) sizes.states).0 else map value edges.old) }
+    ensures edges { map S.value edges.new ≡ (if edges_fit sizes (length edges.old) && rule_fits sizes rule then (saturated S.values sizes rule (S.value weight) (map S.value edges.old) sizes.states).0 else map S.value edges.old) }
     ensures refused { (edges_fit sizes (length edges.old) && rule_fits sizes rule) ≡ false → edges.new ≡ edges.old }
     ensures rest { drop (edge_count sizes) edges.new ≡ drop (edge_count sizes) edges.old }
 {

@@ -37,7 +37,7 @@ impl Record {
         target: usize,
         word: &[u8],
     ) -> Result<Rule, Refusal>
-        ensures { (es : List Value) (w : Set) → told result ≡ refused_or (rule_refusal (session_of self.now es (map value weights.now) w (room worklist.now)) control symbol target word.now) (new_rule control symbol target word.now) }
+        ensures { (es : List S.Value) (w : Set) → told result ≡ refused_or (rule_refusal (session_of self.now es (map S.value weights.now) w (K.room worklist.now)) control symbol target word.now) (new_rule control symbol target word.now) }
     {
         let sizes = self.sizes;
         if !self.is_editing() {
@@ -97,7 +97,7 @@ impl Record {
         word: &[u8],
         weight: S,
     ) -> Result<usize, Refusal>
-        ensures did { (es : List Value) → Did values (session_of self.old es (map value weights.old) (waiting worklist.old) (room worklist.old)) (rule control symbol target word.now (value weight) (told result)) (session_of self.new es (map value weights.new) (waiting worklist.new) (room worklist.new)) }
+        ensures did { (es : List S.Value) → Did S.values (session_of self.old es (map S.value weights.old) (K.waiting worklist.old) (K.room worklist.old)) (rule control symbol target word.now (S.value weight) (told result)) (session_of self.new es (map S.value weights.new) (K.waiting worklist.new) (K.room worklist.new)) }
         ensures weights { weights.new ≡ written result weights.old weight }
         ensures refused { OnRefusal result ((self.new ≡ self.old) × (worklist.new ≡ worklist.old)) }
     {
@@ -119,7 +119,7 @@ impl Record {
         symbol: u8,
         to: usize,
     ) -> Option<Refusal>
-        ensures { (ws : List Value) (w : Set) → option_map reason result ≡ edge_refusal (session_of self.now (map value edges.now) ws w (room worklist.now)) from symbol to }
+        ensures { (ws : List S.Value) (w : Set) → option_map reason result ≡ edge_refusal (session_of self.now (map S.value edges.now) ws w (K.room worklist.now)) from symbol to }
     {
         let sizes = self.sizes;
         if !self.is_editing() {
@@ -150,7 +150,7 @@ impl Record {
         to: usize,
         weight: S,
     ) -> Result<bool, Refusal>
-        ensures did { (ws : List Value) → Did values (session_of self.now (map value edges.old) ws (waiting worklist.old) (room worklist.old)) (edge from symbol to (value weight) (told result)) (session_of self.now (map value edges.new) ws (waiting worklist.new) (room worklist.new)) }
+        ensures did { (ws : List S.Value) → Did S.values (session_of self.now (map S.value edges.old) ws (K.waiting worklist.old) (K.room worklist.old)) (edge from symbol to (S.value weight) (told result)) (session_of self.now (map S.value edges.new) ws (K.waiting worklist.new) (K.room worklist.new)) }
         ensures refused { OnRefusal result ((edges.new ≡ edges.old) × (worklist.new ≡ worklist.old)) }
         ensures rest { drop (edge_count self.now.sizes) edges.new ≡ drop (edge_count self.now.sizes) edges.old }
     {

@@ -19,7 +19,7 @@ use worklist::Worklist;
 
 // Why an open is refused, if it is.
 fn open_refusal<S: Scale, K: Worklist>(sizes: Sizes, edges: &[S], worklist: &K) -> Option<Refusal>
-    ensures { option_map reason result ≡ open_refusal sizes (length edges.now) (room worklist.now) }
+    ensures { option_map reason result ≡ open_refusal sizes (length edges.now) (K.room worklist.now) }
 {
     if !sizes.are_allowed() {
         Some(Refusal::Sizes)
@@ -76,8 +76,8 @@ impl Record {
         edges: &mut [S],
         worklist: &mut K,
     ) -> Result<Editing, Refusal>
-        ensures answer { outcome result ≡ open_refusal sizes (length edges.old) (room worklist.old) }
-        ensures after { (ws : List Value) → session_of self.new (map value edges.new) ws (waiting worklist.new) (room worklist.new) ≡ left_or (open_refusal sizes (length edges.old) (room worklist.old)) (session_of self.old (map value edges.old) ws (waiting worklist.old) (room worklist.old)) (opened values sizes (map value edges.old) ws (room worklist.old)) }
+        ensures answer { outcome result ≡ open_refusal sizes (length edges.old) (K.room worklist.old) }
+        ensures after { (ws : List S.Value) → session_of self.new (map S.value edges.new) ws (K.waiting worklist.new) (K.room worklist.new) ≡ left_or (open_refusal sizes (length edges.old) (K.room worklist.old)) (session_of self.old (map S.value edges.old) ws (K.waiting worklist.old) (K.room worklist.old)) (opened S.values sizes (map S.value edges.old) ws (K.room worklist.old)) }
         ensures refused { OnRefusal result ((self.new ≡ self.old) × (edges.new ≡ edges.old) × (worklist.new ≡ worklist.old)) }
         ensures rest { drop (edge_count sizes) edges.new ≡ drop (edge_count sizes) edges.old }
     {

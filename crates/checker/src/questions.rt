@@ -37,7 +37,7 @@ impl Record {
         control: usize,
         word: &[u8],
     ) -> Option<Refusal>
-        ensures { (ws : List Value) (w : Set) (m : ℕ) → option_map reason result ≡ question_refusal staged (session_of self.now (map value edges.now) ws w m) scratch control word.now }
+        ensures { (ws : List S.Value) (w : Set) (m : ℕ) → option_map reason result ≡ question_refusal staged (session_of self.now (map S.value edges.now) ws w m) scratch control word.now }
     {
         let sizes = self.sizes;
         if !staged {
@@ -59,7 +59,7 @@ impl Record {
         requires scratch { 2 * self.now.sizes.states ≤ length scratch.old }
         requires control { control < self.now.sizes.controls }
         requires word { all_below self.now.sizes.symbols word.now ≡ true }
-        ensures { (ws : List Value) (w : Set) (m : ℕ) → value result ≡ asked values (session_of self.now (map value edges.now) ws w m) control word.now }
+        ensures { (ws : List S.Value) (w : Set) (m : ℕ) → S.value result ≡ asked S.values (session_of self.now (map S.value edges.now) ws w m) control word.now }
     {
         read_word(self.sizes, edges, &self.finals, scratch, control, word).unwrap()
     }
@@ -73,7 +73,7 @@ impl Record {
         control: usize,
         word: &[u8],
     ) -> Result<S, Refusal>
-        ensures answer { (ws : List Value) (w : Set) (m : ℕ) → told (valued value result) ≡ refused_or (question_refusal staged (session_of self.now (map value edges.now) ws w m) (length scratch.old) control word.now) (asked values (session_of self.now (map value edges.now) ws w m) control word.now) }
+        ensures answer { (ws : List S.Value) (w : Set) (m : ℕ) → told (valued S.value result) ≡ refused_or (question_refusal staged (session_of self.now (map S.value edges.now) ws w m) (length scratch.old) control word.now) (asked S.values (session_of self.now (map S.value edges.now) ws w m) control word.now) }
         ensures refused { OnRefusal result (scratch.new ≡ scratch.old) }
         ensures scratch { length scratch.new ≡ length scratch.old }
     {
@@ -92,7 +92,7 @@ impl Record {
         control: usize,
         word: &[u8],
     ) -> Result<Answer<S>, Refusal>
-        ensures did { (ws : List Value) → Did values (session_of self.now (map value edges.now) ws (waiting worklist.now) (room worklist.now)) (question control word.now (length scratch.old) (told (answered value result))) (session_of self.now (map value edges.now) ws (waiting worklist.now) (room worklist.now)) }
+        ensures did { (ws : List S.Value) → Did S.values (session_of self.now (map S.value edges.now) ws (K.waiting worklist.now) (K.room worklist.now)) (question control word.now (length scratch.old) (told (answered S.value result))) (session_of self.now (map S.value edges.now) ws (K.waiting worklist.now) (K.room worklist.now)) }
         ensures refused { OnRefusal result (scratch.new ≡ scratch.old) }
         ensures scratch { length scratch.new ≡ length scratch.old }
     {
@@ -114,7 +114,7 @@ impl Record {
         control: usize,
         word: &[u8],
     ) -> Result<S, Refusal>
-        ensures did { (ws : List Value) (w : Set) (m : ℕ) → Did values (session_of self.now (map value edges.now) ws w m) (released_question control word.now (length scratch.old) (told (valued value result))) (session_of self.now (map value edges.now) ws w m) }
+        ensures did { (ws : List S.Value) (w : Set) (m : ℕ) → Did S.values (session_of self.now (map S.value edges.now) ws w m) (released_question control word.now (length scratch.old) (told (valued S.value result))) (session_of self.now (map S.value edges.now) ws w m) }
         ensures refused { OnRefusal result (scratch.new ≡ scratch.old) }
         ensures scratch { length scratch.new ≡ length scratch.old }
     {

@@ -7,9 +7,9 @@ use worklist::Worklist;
 
 // Puts on the worklist the numbers of the rules whose word has the symbol.
 fn put_readers<K: Worklist>(rules: &[Rule], symbol: u8, worklist: &mut K)
-    requires { length rules.now ≤ room worklist.old }
-    ensures set { waiting worklist.new ≡ union (waiting worklist.old) (readers rules.now symbol) }
-    ensures kept { room worklist.new ≡ room worklist.old }
+    requires { length rules.now ≤ K.room worklist.old }
+    ensures set { K.waiting worklist.new ≡ union (K.waiting worklist.old) (readers rules.now symbol) }
+    ensures kept { K.room worklist.new ≡ K.room worklist.old }
 {
     for (number, rule) in rules.iter().enumerate() {
         if rule.word.has_symbol(symbol) {
@@ -25,9 +25,9 @@ pub(crate) fn put_readers_if<K: Worklist>(
     symbol: u8,
     worklist: &mut K,
 )
-    requires { length rules.now ≤ room worklist.old }
-    ensures set { waiting worklist.new ≡ (if changed then union (waiting worklist.old) (readers rules.now symbol) else waiting worklist.old) }
-    ensures kept { room worklist.new ≡ room worklist.old }
+    requires { length rules.now ≤ K.room worklist.old }
+    ensures set { K.waiting worklist.new ≡ (if changed then union (K.waiting worklist.old) (readers rules.now symbol) else K.waiting worklist.old) }
+    ensures kept { K.room worklist.new ≡ K.room worklist.old }
 {
     if changed {
         put_readers(rules, symbol, worklist);

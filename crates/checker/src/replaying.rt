@@ -14,7 +14,7 @@ use scale::Scale;
 
 // A run, or a refusal where it was broken off.
 fn run_or_refusal<S: Scale>(answer: Result<Run<S>, Stop>) -> Result<Run<S>, Refusal>
-    ensures { told (came value result) ≡ stopped (pointed value answer) }
+    ensures { told (came S.value result) ≡ stopped (pointed S.value answer) }
 {
     match answer {
         Ok(run) => Ok(run),
@@ -78,8 +78,8 @@ impl Record {
         buffer: &mut [u8],
         height: usize,
     ) -> Result<Run<S>, Refusal>
-        ensures did { Replayed values (table_of self.now) (map value weights.now) numbers.now control height buffer.old (told (came value result)) buffer.new }
-        ensures run { replay_refusal (table_of self.now) (length (map value weights.now)) control buffer.old height ≡ None → Replays values (table_of self.now).rules (map value weights.now) numbers.now control height buffer.old (told (came value result)) buffer.new }
+        ensures did { Replayed S.values (table_of self.now) (map S.value weights.now) numbers.now control height buffer.old (told (came S.value result)) buffer.new }
+        ensures run { replay_refusal (table_of self.now) (length (map S.value weights.now)) control buffer.old height ≡ None → Replays S.values (table_of self.now).rules (map S.value weights.now) numbers.now control height buffer.old (told (came S.value result)) buffer.new }
     {
         if let Some(refusal) = self.replay_refusal(weights.len(), control, buffer, height) {
             return Err(refusal);

@@ -24,7 +24,7 @@ impl Record {
         weights: &[S],
         worklist: &K,
     ) -> Option<Refusal>
-        ensures { option_map reason result ≡ settle_refusal (lent value waiting room self.now edges.now weights.now worklist.now) }
+        ensures { option_map reason result ≡ settle_refusal (lent S.value K.waiting K.room self.now edges.now weights.now worklist.now) }
     {
         let sizes = self.sizes;
         if !self.is_editing() {
@@ -48,11 +48,11 @@ impl Record {
     ) -> u64
         requires edges { edge_count self.now.sizes ≤ length edges.old }
         requires weights { self.now.sizes.limit ≤ length weights.now }
-        requires worklist { self.now.sizes.limit ≤ room worklist.old }
-        ensures after { lent value waiting room self.now edges.new weights.now worklist.new ≡ (looked values (lent value waiting room self.now edges.old weights.now worklist.old) number).0 }
-        ensures raises { result ≡ (looked values (lent value waiting room self.now edges.old weights.now worklist.old) number).1 }
+        requires worklist { self.now.sizes.limit ≤ K.room worklist.old }
+        ensures after { lent S.value K.waiting K.room self.now edges.new weights.now worklist.new ≡ (looked S.values (lent S.value K.waiting K.room self.now edges.old weights.now worklist.old) number).0 }
+        ensures raises { result ≡ (looked S.values (lent S.value K.waiting K.room self.now edges.old weights.now worklist.old) number).1 }
         ensures few { result ≤ 64 }
-        ensures kept { room worklist.new ≡ room worklist.old }
+        ensures kept { K.room worklist.new ≡ K.room worklist.old }
         ensures rest { drop (edge_count self.now.sizes) edges.new ≡ drop (edge_count self.now.sizes) edges.old }
     {
         if number >= self.count {
@@ -73,10 +73,10 @@ impl Record {
     ) -> Option<u64>
         requires edges { edge_count self.now.sizes ≤ length edges.old }
         requires weights { self.now.sizes.limit ≤ length weights.now }
-        requires worklist { self.now.sizes.limit ≤ room worklist.old }
-        ensures made { OneStep values (lent value waiting room self.now edges.old weights.now worklist.old) result (lent value waiting room self.now edges.new weights.now worklist.new) }
+        requires worklist { self.now.sizes.limit ≤ K.room worklist.old }
+        ensures made { OneStep S.values (lent S.value K.waiting K.room self.now edges.old weights.now worklist.old) result (lent S.value K.waiting K.room self.now edges.new weights.now worklist.new) }
         ensures few { IfSome result (λ k. k ≤ 64) }
-        ensures kept { room worklist.new ≡ room worklist.old }
+        ensures kept { K.room worklist.new ≡ K.room worklist.old }
         ensures rest { drop (edge_count self.now.sizes) edges.new ≡ drop (edge_count self.now.sizes) edges.old }
     {
         match worklist.take() {
@@ -95,8 +95,8 @@ impl Record {
     ) -> Report
         requires edges { edge_count self.now.sizes ≤ length edges.old }
         requires weights { self.now.sizes.limit ≤ length weights.now }
-        requires worklist { self.now.sizes.limit ≤ room worklist.old }
-        ensures ran { Ran values (lent value waiting room self.now edges.old weights.now worklist.old) budget result (lent value waiting room self.now edges.new weights.now worklist.new) }
+        requires worklist { self.now.sizes.limit ≤ K.room worklist.old }
+        ensures ran { Ran S.values (lent S.value K.waiting K.room self.now edges.old weights.now worklist.old) budget result (lent S.value K.waiting K.room self.now edges.new weights.now worklist.new) }
         ensures rest { drop (edge_count self.now.sizes) edges.new ≡ drop (edge_count self.now.sizes) edges.old }
     {
         let mut raises = 0;
@@ -127,7 +127,7 @@ impl Record {
         worklist: &mut K,
         budget: u32,
     ) -> Result<Report, Refusal>
-        ensures did { Did values (lent value waiting room self.old edges.old weights.now worklist.old) (settle budget (told result)) (lent value waiting room self.new edges.new weights.now worklist.new) }
+        ensures did { Did S.values (lent S.value K.waiting K.room self.old edges.old weights.now worklist.old) (settle budget (told result)) (lent S.value K.waiting K.room self.new edges.new weights.now worklist.new) }
         ensures refused { OnRefusal result ((self.new ≡ self.old) × (edges.new ≡ edges.old) × (worklist.new ≡ worklist.old)) }
         ensures rest { drop (edge_count self.old.sizes) edges.new ≡ drop (edge_count self.old.sizes) edges.old }
     {

@@ -26,7 +26,7 @@ impl Record {
         pass: Editing,
         worklist: &K,
     ) -> Result<Released, HandedBack<Editing>>
-        ensures did { ReleasedTo (table_of self.old) (waiting worklist.now) (told (passed result)) (table_of self.new) }
+        ensures did { ReleasedTo (table_of self.old) (K.waiting worklist.now) (told (passed result)) (table_of self.new) }
         ensures refused { OnRefusal (passed result) (self.new ≡ self.old) }
     {
         let idle = worklist.is_empty();

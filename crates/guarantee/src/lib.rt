@@ -8,5 +8,5 @@ use worklist::Worklist;
 
 // Every list of calls on a fresh session, over any scale and any worklist, keeps the promises.
 pub fn promises_hold<S: Scale, K: Worklist>()
-    ensures { Promises values (held value waiting room) }
+    ensures { Promises S.values (held S.value K.waiting K.room) }
 {}

@@ -98,7 +98,7 @@ fn enter<S: Scale>(
 ) -> Result<Run<S>, Stop>
     requires weights { length rules.now ≤ length weights.now }
     requires room { run.length ≤ length buffer.old }
-    ensures run { joined (pointed value result) buffer.new ≡ entered values rules.now (map value weights.now) place number (point value run) buffer.old }
+    ensures run { joined (pointed S.value result) buffer.new ≡ entered S.values rules.now (map S.value weights.now) place number (point S.value run) buffer.old }
     ensures kept { MatchResult result (λ x. x.length ≤ length buffer.new) (λ _. buffer.new ≡ buffer.old) }
 {
     let control = run.control;
@@ -134,8 +134,8 @@ fn run_from<S: Scale>(
 ) -> Result<Run<S>, Stop>
     requires weights { length rules.now ≤ length weights.now }
     requires room { begin.length ≤ length buffer.old }
-    ensures answer { pointed value result ≡ (replayed values rules.now (map value weights.now) 0 numbers.now (point value begin) buffer.old).0 }
-    ensures buffer { buffer.new ≡ (replayed values rules.now (map value weights.now) 0 numbers.now (point value begin) buffer.old).1 }
+    ensures answer { pointed S.value result ≡ (replayed S.values rules.now (map S.value weights.now) 0 numbers.now (point S.value begin) buffer.old).0 }
+    ensures buffer { buffer.new ≡ (replayed S.values rules.now (map S.value weights.now) 0 numbers.now (point S.value begin) buffer.old).1 }
 {
     let mut run = begin;
     for (place, number) in numbers.iter().enumerate() {
@@ -158,9 +158,9 @@ pub fn replay<S: Scale>(
     buffer: &mut [u8],
     height: usize,
 ) -> Option<Result<Run<S>, Stop>>
-    ensures answer { option_map (pointed value) result ≡ only_if (can_replay rules.now weights.now buffer.old height) (replayed values rules.now (map value weights.now) 0 numbers.now (start values control height) buffer.old).0 }
-    ensures buffer { buffer.new ≡ (if can_replay rules.now weights.now buffer.old height then (replayed values rules.now (map value weights.now) 0 numbers.now (start values control height) buffer.old).1 else buffer.old) }
-    ensures run { IfSome result (λ a. Replays values rules.now (map value weights.now) numbers.now control height buffer.old (pointed value a) buffer.new) }
+    ensures answer { option_map (pointed S.value) result ≡ only_if (can_replay rules.now weights.now buffer.old height) (replayed S.values rules.now (map S.value weights.now) 0 numbers.now (start S.values control height) buffer.old).0 }
+    ensures buffer { buffer.new ≡ (if can_replay rules.now weights.now buffer.old height then (replayed S.values rules.now (map S.value weights.now) 0 numbers.now (start S.values control height) buffer.old).1 else buffer.old) }
+    ensures run { IfSome result (λ a. Replays S.values rules.now (map S.value weights.now) numbers.now control height buffer.old (pointed S.value a) buffer.new) }
 {
     if rules.len() <= weights.len() && height <= buffer.len() {
         let begin = Run {

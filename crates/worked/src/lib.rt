@@ -12,5 +12,5 @@ pub fn rows_hold()
 
 // Over any scale, the steps of those rows, with the smallest number first, are steps that a settle may make.
 pub fn smallest_first_settles<S: Scale>()
-    ensures { MaySettleSo values }
+    ensures { MaySettleSo S.values }
 {}

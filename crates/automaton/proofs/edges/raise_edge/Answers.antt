@@ -1,4 +1,4 @@
-use Rattle.std.proofs.Common.{◌≡◌, set, ◌∙◌}
+use Rattle.std.proofs.Common.{◌∙◌}
 use Rattle.std.proofs.lemmas.List.{map-set, drop-set-lt}
 use Rattle.automaton.specs.Limits.{edge_count}
 use Rattle.automaton.proofs.edges.raise_edge.Goals as goal

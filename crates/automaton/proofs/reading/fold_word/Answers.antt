@@ -11,10 +11,10 @@ loop-place-init g c = λ k h.
     let a = c.args in
     let s = g.S.Scale.values in
     let answers = answer s (edge_at s a.sizes (map g.S.Scale.value a.edges.now)) a.sizes.states (λ q. get_or a.finals.now q false) k in
-    c.start-row.ensures k h ∙ sym (at_drop_all answers a.word.now (length a.word.now) (omega arith))
+    c.start_row.ensures k h ∙ sym (at_drop_all answers a.word.now (length a.word.now) (omega arith))
 
-pub extend-row-requires : goal.extend-row-requires
-extend-row-requires g c = record {
+pub extend_row-requires : goal.extend_row-requires
+extend_row-requires g c = record {
   room = c.requires.room;
   symbol = below_at c.args.sizes.symbols c.args.word.now (c.loop-place.place - 1) c.requires.word (omega arith);
   scratch = omega arith;
@@ -33,7 +33,7 @@ loop-place-preserved g c =
     let i = c.loop-place.place - 1 in
     let back : c.loop-place.place ≡ i + 1 = omega arith in
     answers_more s laws.combines laws.distributes laws.absorbs e n final w i
-    (at_place s (map value c.loop-place.scratch)) (at_place s (map value c.extend-row.new.scratch)) (at_place s (map value c.keep-row.new.scratch))
+    (at_place s (map value c.loop-place.scratch)) (at_place s (map value c.extend_row.new.scratch)) (at_place s (map value c.keep_row.new.scratch))
     (omega arith)
     (λ k h. c.loop-place.invariant k h ∙ ap (λ j. answer s e n final k (drop j w)) back)
-    c.extend-row.ensures c.keep-row.ensures
+    c.extend_row.ensures c.keep_row.ensures

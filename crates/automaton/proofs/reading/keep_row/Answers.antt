@@ -1,4 +1,4 @@
-use Rattle.std.proofs.Common.{◌≡◌, ◌+◌, ◌<◌, length, ◌∙◌, arith, below_more}
+use Rattle.std.proofs.Common.{◌+◌, ◌<◌, length, ◌∙◌, arith, below_more}
 use Rattle.automaton.proofs.Places.{value_read}
 use Rattle.automaton.proofs.RowFacts.{place_same, place_other}
 use Rattle.automaton.proofs.reading.keep_row.Goals as goal

@@ -1,4 +1,4 @@
-use Rattle.std.proofs.Common.{◌≡◌, ◌<◌, Bool, false, cond, List, [], ◌∷◌, length, get_or, sym, ap, ◌∙◌, arith, below_more}
+use Rattle.std.proofs.Common.{◌≡◌, ◌<◌, Bool, false, cond, [], ◌∷◌, length, get_or, sym, ap, ◌∙◌, arith, below_more}
 use Rattle.scale.specs.Semiring.{combined}
 use Rattle.automaton.proofs.RowFacts.{place_same, place_other, combined_one}
 use Rattle.automaton.proofs.reading.start_row.Goals as goal

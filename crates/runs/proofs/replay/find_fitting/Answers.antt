@@ -9,18 +9,18 @@ returns-then-number-rules c = record {
   named = tt;
 }
 
-pub returns-then-fits-stack : goal.returns-then-fits-stack
-returns-then-fits-stack c =
+pub returns-then-fits_stack : goal.returns-then-fits_stack
+returns-then-fits_stack c =
     let a = c.args in
     record {
-      is = gives _ _ (sym c.fits-stack.ensures ∙ c.if-fits-stack.true) ∙ sym (fitting_within a.rules.now a.number a.control a.buffer.now a.height _ c.if-number-rules.false);
+      is = gives _ _ (sym c.fits_stack.ensures ∙ c.if-fits_stack.true) ∙ sym (fitting_within a.rules.now a.number a.control a.buffer.now a.height _ c.if-number-rules.false);
       named = c.if-number-rules.false;
     }
 
-pub returns-else-fits-stack : goal.returns-else-fits-stack
-returns-else-fits-stack c =
+pub returns-else-fits_stack : goal.returns-else-fits_stack
+returns-else-fits_stack c =
     let a = c.args in
     record {
-      is = gives_none _ _ (sym c.fits-stack.ensures ∙ c.if-fits-stack.false) ∙ sym (fitting_within a.rules.now a.number a.control a.buffer.now a.height _ c.if-number-rules.false);
+      is = gives_none _ _ (sym c.fits_stack.ensures ∙ c.if-fits_stack.false) ∙ sym (fitting_within a.rules.now a.number a.control a.buffer.now a.height _ c.if-number-rules.false);
       named = tt;
     }

@@ -19,12 +19,12 @@ returns-then-height-buffer g c =
     let all = replayed s rules ws 0 ns (start s a.control a.height) b in
     let can : can_replay rules a.weights.now b a.height ≡ true = and_from _ _ (le-leb _ _ c.if-rules-weights.true) (le-leb _ _ c.if-height-buffer.true) in
     let begins = ap (λ (v : g.S.Scale.Value). replayed s rules ws 0 ns (record { control = a.control; length = a.height; weight = v }) b) c.one.ensures in
-    let answer : pointed value c.run-from.result ≡ all.0 = c.run-from.ensures.answer ∙ ap (λ r. r.0) begins in
-    let left : c.run-from.new.buffer ≡ all.1 = c.run-from.ensures.buffer ∙ ap (λ r. r.1) begins in
+    let answer : pointed value c.run_from.result ≡ all.0 = c.run_from.ensures.answer ∙ ap (λ r. r.0) begins in
+    let left : c.run_from.new.buffer ≡ all.1 = c.run_from.ensures.buffer ∙ ap (λ r. r.1) begins in
     let run = replays s g.met.S.Scale.extends rules ws ns a.control a.height b c.if-height-buffer.true in
     record {
       answer = ap Some answer ∙ ap (λ (t : Bool). only_if t all.0) (sym can);
       buffer = left ∙ sym (cond-true _ _ _ can);
-      run = subst (λ (r : Result (Point g.S.Scale.Value) Stop). Replays s rules ws ns a.control a.height b r c.run-from.new.buffer) (sym answer)
+      run = subst (λ (r : Result (Point g.S.Scale.Value) Stop). Replays s rules ws ns a.control a.height b r c.run_from.new.buffer) (sym answer)
           (subst (λ (after : List ℕ). Replays s rules ws ns a.control a.height b all.0 after) (sym left) run);
     }

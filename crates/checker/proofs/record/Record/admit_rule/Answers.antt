@@ -27,8 +27,8 @@ returns-in-default g c = λ es w.
     let long = given_none (leb (length c.args.word.now) 2) (word_of c.args.word.now) c.in-default.ensures in
     simp length-map (grind (arith, nat_tests))
 
-pub returns-then-live-rules-sizes : goal.returns-then-live-rules-sizes
-returns-then-live-rules-sizes g c = λ es w. simp (length-map, c.live-rules.ensures.count) (grind (arith, nat_tests))
+pub returns-then-live_rules-sizes : goal.returns-then-live_rules-sizes
+returns-then-live_rules-sizes g c = λ es w. simp (length-map, c.live_rules.ensures.count) (grind (arith, nat_tests))
 
 pub returns : goal.returns
 returns g c = λ es w.
@@ -38,6 +38,6 @@ returns g c = λ es w.
     let before = session_of a.self.now es (map g.S.Scale.value a.weights.now) w (g.K.Worklist.room a.worklist.now) in
     let few : ltb 2 (length symbols) ≡ false = grind (arith, nat_tests) in
     let accepted : rule_refusal before a.control a.symbol a.target symbols ≡ None =
-    simp (length-map, c.live-rules.ensures.count) (grind (arith, nat_tests)) in
+    simp (length-map, c.live_rules.ensures.count) (grind (arith, nat_tests)) in
     accepted_as _ (new_rule a.control a.symbol a.target symbols) _ accepted
     (ap (λ (word : Word). record { control = a.control; symbol = a.symbol; target = a.target; word = word }) short.1)

@@ -5,8 +5,8 @@ use Rattle.automaton.specs.Limits.{all_fit}
 use Rattle.checker.proofs.Fitting.{fit_push, room_left}
 use Rattle.checker.proofs.record.Record.append.Goals as goal
 
-pub invariant-of-self : goal.invariant-of-self
-invariant-of-self g c =
+pub invariant_of-self : goal.invariant_of-self
+invariant_of-self g c =
     let r = c.args.self.now in
     let left = room_left r.sizes r.rules r.count r.allowed r.counted (omega arith) c.requires.room in (
       r.allowed,

@@ -34,16 +34,16 @@ returns-in-Some g c = record {
 pub unwrap-changed-requires : goal.unwrap-changed-requires
 unwrap-changed-requires g c =
     let a = c.args in
-    is_given _ _ c.combine-into.result c.combine-into.ensures.changed
+    is_given _ _ c.combine_into.result c.combine_into.ensures.changed
     (fits g.S.Scale.value a.self.now a.edges.now [] empty (g.K.Worklist.room a.worklist.now) a.from a.symbol a.to (sym (c.in-default.ensures [] empty)))
 
-pub put-readers-if-requires : goal.put-readers-if-requires
-put-readers-if-requires g c =
+pub put_readers_if-requires : goal.put_readers_if-requires
+put_readers_if-requires g c =
     let a = c.args in
     let r = a.self.now in
     let before = session_of r (map g.S.Scale.value a.edges.now) [] empty (g.K.Worklist.room a.worklist.now) in
     let room = edge_room before a.from a.symbol a.to (sym (c.in-default.ensures [] empty)) in
-    omega (arith, room, count_bound r.sizes r.count r.allowed r.counted, ap length c.live-rules.ensures.is, c.live-rules.ensures.count)
+    omega (arith, room, count_bound r.sizes r.count r.allowed r.counted, ap length c.live_rules.ensures.is, c.live_rules.ensures.count)
 
 pub returns : goal.returns
 returns g c =
@@ -52,18 +52,18 @@ returns g c =
     let s = g.S.Scale.values in
     let value = g.S.Scale.value in
     let w = k.waiting a.worklist.now in
-    let put = c.put-readers-if.ensures.set ∙ ap (λ rs. cond c.unwrap-changed.result (union w (readers rs a.symbol)) w) c.live-rules.ensures.is in
+    let put = c.put_readers_if.ensures.set ∙ ap (λ rs. cond c.unwrap-changed.result (union w (readers rs a.symbol)) w) c.live_rules.ensures.is in
     record {
       did = λ ws.
           let before = session_of a.self.now (map value a.edges.now) ws w (k.room a.worklist.now) in
           let accepted = sym (c.in-default.ensures ws w) in
           let fit = fits value a.self.now a.edges.now ws w _ a.from a.symbol a.to accepted in
-          let changed = (given_some _ _ c.unwrap-changed.result (sym c.unwrap-changed.ensures ∙ c.combine-into.ensures.changed)).1 in
-          let edges = c.combine-into.ensures.edges ∙ cond-true _ _ _ fit in
-          let added = edge_left s before a.from a.symbol a.to (value a.weight) (map value c.combine-into.new.edges) c.unwrap-changed.result
-          (k.waiting c.put-readers-if.new.worklist) (k.room c.put-readers-if.new.worklist)
-          edges changed put c.put-readers-if.ensures.kept in
+          let changed = (given_some _ _ c.unwrap-changed.result (sym c.unwrap-changed.ensures ∙ c.combine_into.ensures.changed)).1 in
+          let edges = c.combine_into.ensures.edges ∙ cond-true _ _ _ fit in
+          let added = edge_left s before a.from a.symbol a.to (value a.weight) (map value c.combine_into.new.edges) c.unwrap-changed.result
+          (k.waiting c.put_readers_if.new.worklist) (k.room c.put_readers_if.new.worklist)
+          edges changed put c.put_readers_if.ensures.kept in
           (accepted_as _ _ _ accepted changed, after_as _ _ _ _ accepted added);
       refused = tt;
-      rest = c.combine-into.ensures.rest;
+      rest = c.combine_into.ensures.rest;
     }

@@ -3,8 +3,8 @@ use Rattle.std.proofs.lemmas.List.{length-map}
 use Rattle.std.proofs.lemmas.Bool.Decides.{nat_tests}
 use Rattle.checker.proofs.record.Record.edge_refusal.Goals as goal
 
-pub returns-then-not-fit-edges : goal.returns-then-not-fit-edges
-returns-then-not-fit-edges g c = λ ws w. simp length-map (grind (arith, nat_tests))
+pub returns-then-not-fit_edges : goal.returns-then-not-fit_edges
+returns-then-not-fit_edges g c = λ ws w. simp length-map (grind (arith, nat_tests))
 
 pub returns-then-capacity-sizes : goal.returns-then-capacity-sizes
 returns-then-capacity-sizes g c = λ ws w. simp length-map (grind (arith, nat_tests))

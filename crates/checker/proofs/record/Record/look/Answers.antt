@@ -32,10 +32,10 @@ unwrap-raises-requires g c =
     let rows : r.count ≤ length r.rules = omega (arith, count_bound r.sizes r.count r.allowed r.counted) in
     is_given _ _ c.saturate.result c.saturate.ensures.raises (fits r _ c.args.number _ rows c.if-number-self.false c.requires.edges)
 
-pub put-readers-if-requires : goal.put-readers-if-requires
-put-readers-if-requires g c =
+pub put_readers_if-requires : goal.put_readers_if-requires
+put_readers_if-requires g c =
     let r = c.args.self.now in
-    omega (arith, count_bound r.sizes r.count r.allowed r.counted, ap length c.live-rules.ensures.is, c.live-rules.ensures.count)
+    omega (arith, count_bound r.sizes r.count r.allowed r.counted, ap length c.live_rules.ensures.is, c.live_rules.ensures.count)
 
 pub returns : goal.returns
 returns g c =
@@ -49,20 +49,20 @@ returns g c =
     let n = c.unwrap-raises.result in
     let rule = get_or r.rules a.number _ in
     let count = count_bound r.sizes r.count r.allowed r.counted in
-    let rows : r.count ≤ length r.rules = omega (arith, length-take r.count r.rules, c.live-rules.ensures.count) in
+    let rows : r.count ≤ length r.rules = omega (arith, length-take r.count r.rules, c.live_rules.ensures.count) in
     let fit = fits r (length a.edges.now) a.number _ rows c.if-number-self.false c.requires.edges in
     let weight = value_read value a.weights.now a.number c.index-weights-number.result s.none (omega (arith, count)) c.index-weights-number.is in
     let raises = (given_some _ _ n (sym c.unwrap-raises.ensures ∙ c.saturate.ensures.raises)).1 in
     let few : n ≤ r.sizes.states = subst (λ (o : Option ℕ). IfSome o (λ k. k ≤ r.sizes.states)) c.unwrap-raises.ensures c.saturate.ensures.few in
     let edges = c.saturate.ensures.edges ∙ cond-true _ _ _ fit in
-    let put = c.put-readers-if.ensures.set ∙ ap (λ rs. cond (ltb 0 n) (union w (readers rs rule.symbol)) w) c.live-rules.ensures.is in
+    let put = c.put_readers_if.ensures.set ∙ ap (λ rs. cond (ltb 0 n) (union w (readers rs rule.symbol)) w) c.live_rules.ensures.is in
     let all = looked_some s before a.number rule (value c.index-weights-number.result)
-    (map value c.saturate.new.edges) n (k.waiting c.put-readers-if.new.worklist) (k.room c.put-readers-if.new.worklist)
-    (at_take r.rules r.count a.number _ c.if-number-self.false rows) weight edges raises put c.put-readers-if.ensures.kept in
+    (map value c.saturate.new.edges) n (k.waiting c.put_readers_if.new.worklist) (k.room c.put_readers_if.new.worklist)
+    (at_take r.rules r.count a.number _ c.if-number-self.false rows) weight edges raises put c.put_readers_if.ensures.kept in
     record {
       after = all.0;
       raises = all.1;
       few = omega (arith, few, states_bound r.sizes r.allowed);
-      kept = c.put-readers-if.ensures.kept;
+      kept = c.put_readers_if.ensures.kept;
       rest = c.saturate.ensures.rest;
     }

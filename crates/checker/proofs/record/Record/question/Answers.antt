@@ -13,9 +13,9 @@ returns-in-Ok g c = record {
       let w = k.waiting a.worklist.now in
       let m = k.room a.worklist.now in
       let before = session_of a.self.now (map g.S.Scale.value a.edges.now) ws w m in
-      let stage = ap (λ (b : Bool). question_refusal b before (length a.scratch.now) a.control a.word.now) c.is-open.ensures in
+      let stage = ap (λ (b : Bool). question_refusal b before (length a.scratch.now) a.control a.word.now) c.is_open.ensures in
       let known = was_accepted _ _ _ (c.in-Ok.ensures.answer ws w m) in
-      (refl, (sym stage ∙ known.0, known.1, c.is-empty-settled.ensures));
+      (refl, (sym stage ∙ known.0, known.1, c.is_empty-settled.ensures));
   refused = tt;
   scratch = c.in-Ok.ensures.scratch;
 }
@@ -28,7 +28,7 @@ returns-in-Err g c = record {
       let w = k.waiting a.worklist.now in
       let m = k.room a.worklist.now in
       let before = session_of a.self.now (map g.S.Scale.value a.edges.now) ws w m in
-      let stage = ap (λ (b : Bool). question_refusal b before (length a.scratch.now) a.control a.word.now) c.is-open.ensures in
+      let stage = ap (λ (b : Bool). question_refusal b before (length a.scratch.now) a.control a.word.now) c.is_open.ensures in
       (refl, sym stage ∙ was_refused _ (reason c.in-Err.refusal) _ (c.in-Err.ensures.answer ws w m));
   refused = c.in-Err.ensures.refused;
   scratch = c.in-Err.ensures.scratch;

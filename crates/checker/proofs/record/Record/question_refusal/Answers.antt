@@ -9,8 +9,8 @@ returns-then-scratch-sizes g c = λ ws w m. simp length-map (grind (arith, nat_t
 pub returns-then-control-sizes : goal.returns-then-control-sizes
 returns-then-control-sizes g c = λ ws w m. simp length-map (grind (arith, nat_tests))
 
-pub returns-then-not-all-below : goal.returns-then-not-all-below
-returns-then-not-all-below g c = λ ws w m. simp length-map (grind (arith, nat_tests))
+pub returns-then-not-all_below : goal.returns-then-not-all_below
+returns-then-not-all_below g c = λ ws w m. simp length-map (grind (arith, nat_tests))
 
-pub returns-else-not-all-below : goal.returns-else-not-all-below
-returns-else-not-all-below g c = λ ws w m. simp length-map (grind (arith, nat_tests))
+pub returns-else-not-all_below : goal.returns-else-not-all_below
+returns-else-not-all_below g c = λ ws w m. simp length-map (grind (arith, nat_tests))

@@ -17,9 +17,9 @@ fits r edges finals scratch p w marks enough long control below =
 pub unwrap-requires : goal.unwrap-requires
 unwrap-requires g c =
     let a = c.args in
-    mapped_given g.S.Scale.value _ _ c.read-word.result c.read-word.ensures.weight
+    mapped_given g.S.Scale.value _ _ c.read_word.result c.read_word.ensures.weight
     (fits a.self.now _ _ _ a.control a.word.now (omega arith) c.requires.edges c.requires.scratch c.requires.control c.requires.word)
 
 pub returns : goal.returns
 returns g c = λ ws w m.
-    (given_some _ _ (g.S.Scale.value c.unwrap.result) (ap (option_map g.S.Scale.value) (sym c.unwrap.ensures) ∙ c.read-word.ensures.weight)).1
+    (given_some _ _ (g.S.Scale.value c.unwrap.result) (ap (option_map g.S.Scale.value) (sym c.unwrap.ensures) ∙ c.read_word.ensures.weight)).1

@@ -10,7 +10,7 @@ returns g c = record {
       let a = c.args in
       let before = session_of a.self.now (map g.S.Scale.value a.edges.now) ws w m in
       let answer = asked g.S.Scale.values before a.control a.word.now in
-      (refl, c.ask.ensures.answer ws w m ∙ ap (λ (b : Bool). refused_or (question_refusal b before (length a.scratch.now) a.control a.word.now) answer) c.is-released.ensures);
+      (refl, c.ask.ensures.answer ws w m ∙ ap (λ (b : Bool). refused_or (question_refusal b before (length a.scratch.now) a.control a.word.now) answer) c.is_released.ensures);
   refused = c.ask.ensures.refused;
   scratch = c.ask.ensures.scratch;
 }

@@ -40,7 +40,7 @@ returns g c =
     let ws = map value a.weights.now in
     let ns = a.numbers.now in
     let b = a.buffer.now in
-    let live = c.live-rules.result.now in
+    let live = c.live_rules.result.now in
     let after = c.replay-answer.new.buffer in
     let r = pointed value c.unwrap.result in
     let o = replay_refusal t (length ws) a.control b a.height in
@@ -52,8 +52,8 @@ returns g c =
     (stopped r ≡ refused_or_ran o (replayed s rules ws 0 ns (start s a.control a.height) b).0)
     × (after ≡ left_or o b (replayed s rules ws 0 ns (start s a.control a.height) b).1)
     × Replays s rules ws ns a.control a.height b (stopped r) after in
-    let all = subst P c.live-rules.ensures.is done in
+    let all = subst P c.live_rules.ensures.is done in
     record {
-      did = (c.run-or-refusal.ensures ∙ all.0, all.1);
-      run = λ _. subst (λ (q : Result (Point g.S.Scale.Value) Reason). Replays s t.rules ws ns a.control a.height b q after) (sym c.run-or-refusal.ensures) all.2;
+      did = (c.run_or_refusal.ensures ∙ all.0, all.1);
+      run = λ _. subst (λ (q : Result (Point g.S.Scale.Value) Reason). Replays s t.rules ws ns a.control a.height b q after) (sym c.run_or_refusal.ensures) all.2;
     }
