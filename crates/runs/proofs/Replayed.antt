@@ -1,9 +1,8 @@
 -- A replay is a run whose words stay within the buffer.
-use Rattle.std.proofs.Common.{◌≡◌, ℕ, ◌+◌, ◌≤◌, Bool, true, false, leb, List, [], ◌∷◌, length, get_or, is_ok, Some, None, Ok, Err, Decides, Option, Result, sym, refl, ap, ◌∙◌, subst, arith, MatchResult}
+use Rattle.std.proofs.Common.{◌≡◌, ℕ, ◌+◌, ◌≤◌, leb, List, [], ◌∷◌, length, get_or, Some, None, Ok, Err, Option, Result, sym, refl, ap, ◌∙◌, arith, MatchResult}
 use Rattle.std.proofs.lemmas.Bool.{false≢true}
 use Rattle.scale.specs.Semiring.{Semiring, Extends}
 use Rattle.automaton.specs.declared.rules.Rule.{Rule}
-use Rattle.automaton.specs.Layout.{only_if}
 use Rattle.automaton.specs.Pushdown.{Config, at, then, applied, ends, run_weight}
 use Rattle.automaton.proofs.Options.{given_some}
 use Rattle.runs.specs.declared.replay.Stop.{Stop}

@@ -1,12 +1,11 @@
 -- Runs on a stack in a buffer, its bottom at place 0 and its top last.
-use Rattle.std.specs.Prelude.{◌≡◌, ℕ, ◌+◌, ◌-◌, ◌≤◌, Bool, true, cond, ◌&&◌, List, [], ◌∷◌, reverse, length, take, is_ok, Some, None, Ok, Err, Decides, Option, Result, MatchResult, ◌==◌, nat_lt, slice_index, slice_index_or, slice_set}
+use Rattle.std.specs.Prelude.{◌≡◌, ℕ, ◌+◌, ◌-◌, Bool, ◌&&◌, List, [], ◌∷◌, reverse, length, take, is_ok, Some, None, Ok, Err, Decides, Option, Result, MatchResult, ◌==◌, nat_lt, slice_index, slice_index_or, slice_set}
 use Rattle.scale.specs.Semiring.{Semiring}
 use Rattle.automaton.specs.declared.rules.Rule.{Rule}
 use Rattle.automaton.specs.declared.rules.Word.{Word}
 use Rattle.automaton.specs.declared.rules.Word.TheVariants.{Pop, Swap, Push}
 use Rattle.automaton.specs.Layout.{only_if}
 use Rattle.automaton.specs.Pushdown.{Config, at, then, ends, run_weight}
-use Rattle.runs.specs.declared.replay.Run.{Run}
 use Rattle.runs.specs.declared.replay.Stop.{Stop}
 use Rattle.runs.specs.declared.replay.Stop.TheVariants.{Misfit, NoRoom}
 use Rattle.runs.specs.Bounded.{ends_within}

@@ -1,4 +1,4 @@
-use Rattle.std.proofs.Common.{◌≡◌, map, sym, ap, ◌∙◌, arith}
+use Rattle.std.proofs.Common.{map, ap, ◌∙◌, arith}
 use Rattle.automaton.proofs.Places.{value_read}
 use Rattle.runs.specs.Points.{point}
 use Rattle.runs.proofs.Fits.{entered_run}

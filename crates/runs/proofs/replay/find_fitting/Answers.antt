@@ -1,4 +1,4 @@
-use Rattle.std.proofs.Common.{◌≡◌, sym, ◌∙◌}
+use Rattle.std.proofs.Common.{sym, ◌∙◌}
 use Rattle.automaton.proofs.Options.{gives, gives_none}
 use Rattle.runs.proofs.Fits.{fitting_past, fitting_within}
 use Rattle.runs.proofs.replay.find_fitting.Goals as goal
