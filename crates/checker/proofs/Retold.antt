@@ -1,5 +1,5 @@
 -- What a replay that is not refused before its first entry answers and leaves.
-use Rattle.std.proofs.Common.{◌≡◌, ℕ, Bool, cond, List, Some, None, Ok, Err, Option, Result, sym, ap, ◌∙◌, subst}
+use Rattle.std.proofs.Common.{◌≡◌, ℕ, Bool, cond, List, Some, None, Ok, Err, Option, Result, sym, ap, ◌∙◌}
 use Rattle.std.proofs.lemmas.Bool.{cond-true}
 use Rattle.scale.specs.Semiring.{Semiring}
 use Rattle.automaton.specs.declared.rules.Rule.{Rule}

@@ -22,9 +22,9 @@ returns-then-control-sizes g c = λ es w. simp length-map (grind (arith, nat_tes
 pub returns-then-symbol-sizes : goal.returns-then-symbol-sizes
 returns-then-symbol-sizes g c = λ es w. simp length-map (grind (arith, nat_tests))
 
-pub returns-in-default : goal.returns-in-default
-returns-in-default g c = λ es w.
-    let long = given_none (leb (length c.args.word.now) 2) (word_of c.args.word.now) c.in-default.ensures in
+pub returns-in_default : goal.returns-in_default
+returns-in_default g c = λ es w.
+    let long = given_none (leb (length c.args.word.now) 2) (word_of c.args.word.now) c.in_default.ensures in
     simp length-map (grind (arith, nat_tests))
 
 pub returns-then-live_rules-sizes : goal.returns-then-live_rules-sizes

@@ -1,4 +1,4 @@
-use Rattle.std.proofs.Common.{◌≡◌, [], map, length, sym, refl, arith}
+use Rattle.std.proofs.Common.{[], map, length, sym, refl, arith}
 use Rattle.std.proofs.lemmas.List.{length-map}
 use Rattle.worklist.specs.Sets.{empty}
 use Rattle.checker.specs.Refusals.{reason}
@@ -11,7 +11,7 @@ read-requires g c =
     let a = c.args in
     let before = session_of a.self.now (map g.S.Scale.value a.edges.now) [] empty 0 in
     let n = length a.scratch.now in
-    let accepted = sym (c.in-default.ensures [] empty 0) in
+    let accepted = sym (c.in_default.ensures [] empty 0) in
     record {
       edges = rw length-map at (question_edges before a.staged n a.control a.word.now accepted);
       scratch = question_scratch before a.staged n a.control a.word.now accepted;
@@ -28,7 +28,7 @@ returns-in-Some g c = record {
 
 pub returns : goal.returns
 returns g c = record {
-  answer = λ ws w m. accepted_as _ _ _ (sym (c.in-default.ensures ws w m)) (c.read.ensures ws w m);
+  answer = λ ws w m. accepted_as _ _ _ (sym (c.in_default.ensures ws w m)) (c.read.ensures ws w m);
   refused = tt;
   scratch = omega arith;
 }

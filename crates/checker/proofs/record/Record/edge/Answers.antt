@@ -35,14 +35,14 @@ pub unwrap-changed-requires : goal.unwrap-changed-requires
 unwrap-changed-requires g c =
     let a = c.args in
     is_given _ _ c.combine_into.result c.combine_into.ensures.changed
-    (fits g.S.Scale.value a.self.now a.edges.now [] empty (g.K.Worklist.room a.worklist.now) a.from a.symbol a.to (sym (c.in-default.ensures [] empty)))
+    (fits g.S.Scale.value a.self.now a.edges.now [] empty (g.K.Worklist.room a.worklist.now) a.from a.symbol a.to (sym (c.in_default.ensures [] empty)))
 
 pub put_readers_if-requires : goal.put_readers_if-requires
 put_readers_if-requires g c =
     let a = c.args in
     let r = a.self.now in
     let before = session_of r (map g.S.Scale.value a.edges.now) [] empty (g.K.Worklist.room a.worklist.now) in
-    let room = edge_room before a.from a.symbol a.to (sym (c.in-default.ensures [] empty)) in
+    let room = edge_room before a.from a.symbol a.to (sym (c.in_default.ensures [] empty)) in
     omega (arith, room, count_bound r.sizes r.count r.allowed r.counted, ap length c.live_rules.ensures.is, c.live_rules.ensures.count)
 
 pub returns : goal.returns
@@ -56,7 +56,7 @@ returns g c =
     record {
       did = λ ws.
           let before = session_of a.self.now (map value a.edges.now) ws w (k.room a.worklist.now) in
-          let accepted = sym (c.in-default.ensures ws w) in
+          let accepted = sym (c.in_default.ensures ws w) in
           let fit = fits value a.self.now a.edges.now ws w _ a.from a.symbol a.to accepted in
           let changed = (given_some _ _ c.unwrap-changed.result (sym c.unwrap-changed.ensures ∙ c.combine_into.ensures.changed)).1 in
           let edges = c.combine_into.ensures.edges ∙ cond-true _ _ _ fit in

@@ -1,4 +1,4 @@
-use Rattle.std.proofs.Common.{◌≡◌, Bool, map, length, sym, refl, ap, ◌∙◌}
+use Rattle.std.proofs.Common.{Bool, map, length, sym, refl, ap, ◌∙◌}
 use Rattle.checker.specs.Refusals.{reason}
 use Rattle.checker.specs.Checks.{question_refusal}
 use Rattle.checker.specs.Views.{session_of}

@@ -1,4 +1,4 @@
-use Rattle.std.proofs.Common.{◌≡◌, Bool, map, length, refl, ap, ◌∙◌}
+use Rattle.std.proofs.Common.{Bool, map, length, refl, ap, ◌∙◌}
 use Rattle.checker.specs.Checks.{refused_or, question_refusal}
 use Rattle.checker.specs.Calls.{asked}
 use Rattle.checker.specs.Views.{session_of}

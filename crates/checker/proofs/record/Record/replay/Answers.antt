@@ -44,7 +44,7 @@ returns g c =
     let after = c.replay-answer.new.buffer in
     let r = pointed value c.unwrap.result in
     let o = replay_refusal t (length ws) a.control b a.height in
-    let accepted = refusal_is value t a.weights.now a.control b a.height None c.in-default.ensures in
+    let accepted = refusal_is value t a.weights.now a.control b a.height None c.in_default.ensures in
     let run : Replays s live ws ns a.control a.height b r after =
     subst (λ (q : Option (Result (Run g.row.S.Denot) Stop)). IfSome q (λ x. Replays s live ws ns a.control a.height b (pointed value x) after)) c.unwrap.ensures c.replay-answer.ensures.run in
     let done = replay_done s live ws ns a.control a.height b o r _ after accepted (ap (option_map (pointed value)) (sym c.unwrap.ensures) ∙ c.replay-answer.ensures.answer) c.replay-answer.ensures.buffer run in

@@ -1,5 +1,4 @@
-use Rattle.std.proofs.Common.{map, refl, ◌∙◌, arith}
-use Rattle.checker.specs.Views.{session_of}
+use Rattle.std.proofs.Common.{refl, ◌∙◌, arith}
 use Rattle.checker.proofs.Stepping.{made_none, made_more}
 use Rattle.checker.proofs.record.Record.run.Goals as goal
 

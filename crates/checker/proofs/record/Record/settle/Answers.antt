@@ -9,7 +9,7 @@ run-report-requires g c =
     let a = c.args in
     let k = g.K.Worklist in
     let before = lent g.S.Scale.value k.waiting k.room a.self.now a.edges.now a.weights.now a.worklist.now in
-    let accepted = sym c.in-default.ensures in
+    let accepted = sym c.in_default.ensures in
     record {
       edges = rw length-map at (settle_edges before accepted);
       weights = rw length-map at (settle_weights before accepted);
