@@ -1,5 +1,5 @@
 -- Every list of calls on a fresh session keeps the promises.
-use Rattle.std.proofs.Common.{◌≡◌, ℕ, ◌+◌, ◌*◌, ◌<◌, ◌≤◌, true, false, ◌||◌, ◌⊎◌, List, length, Ok, sym, ap, ◌∙◌, subst, ap₂, ⊎_elim, mul-le-mul_left, mul-add, arith}
+use Rattle.std.proofs.Common.{◌≡◌, ℕ, ◌+◌, ◌*◌, ◌<◌, ◌≤◌, true, false, ◌||◌, List, length, Ok, sym, ap, ◌∙◌, subst, ap₂, ⊎_elim, mul-le-mul_left, mul-add, arith}
 use Rattle.std.proofs.lemmas.Bool.{not_from_true}
 use Rattle.scale.specs.Semiring.{Semiring}
 use Rattle.worklist.specs.Sets.{empty}

@@ -4,7 +4,6 @@ use Rattle.std.proofs.lemmas.Bool.{both_ways, ltb-true}
 use Rattle.scale.specs.Semiring.{Semiring}
 use Rattle.worklist.specs.Sets.{Set, without}
 use Rattle.automaton.specs.declared.rules.Rule.{Rule}
-use Rattle.automaton.specs.Pushdown.{at}
 use Rattle.automaton.specs.Automaton.{Edges}
 use Rattle.automaton.specs.Layout.{saturated}
 use Rattle.checker.specs.Session.{Session}

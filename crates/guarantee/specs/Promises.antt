@@ -1,5 +1,5 @@
 -- What every list of calls on a fresh session keeps.
-use Rattle.std.specs.Prelude.{◌≡◌, ℕ, ◌+◌, ◌-◌, ◌*◌, ◌^◌, ◌<◌, ◌≤◌, min, Bool, true, false, List, length, Some, None, Ok, slice_index_or}
+use Rattle.std.specs.Prelude.{◌≡◌, ℕ, ◌+◌, ◌-◌, ◌*◌, ◌^◌, ◌<◌, ◌≤◌, min, true, false, List, length, Some, Ok, slice_index_or}
 use Rattle.scale.specs.Semiring.{Semiring, Covers}
 use Rattle.automaton.specs.declared.sizes.Sizes.{Sizes}
 use Rattle.automaton.specs.Pushdown.{Config, symbols, word_of, ends, run_weight}

@@ -1,13 +1,13 @@
 -- Settling with the smallest number first is one of the ways to settle.
-use Rattle.std.proofs.Common.{◌≡◌, ℕ, zero, suc, ◌+◌, ◌<◌, ◌≤◌, Bool, true, false, cond, not, eqb, List, [], ◌∷◌, length, Some, None, Decides, Option, sym, refl, ap, ◌∙◌, subst, ⊎_elim, add-zero, add_assoc, zero-add, arith}
+use Rattle.std.proofs.Common.{◌≡◌, ℕ, zero, suc, ◌+◌, ◌<◌, ◌≤◌, Bool, true, false, not, eqb, List, [], ◌∷◌, length, Some, None, Decides, Option, sym, refl, ap, ◌∙◌, subst, ⊎_elim, add-zero, add_assoc, zero-add, arith}
 use mathlib.Core.Path.{fun_ext}
 use Rattle.std.proofs.lemmas.Bool.{cases_Bool, cases_lt, and_parts, both_ways}
 use Rattle.scale.specs.Semiring.{Semiring}
-use Rattle.worklist.specs.Sets.{Set, empty, without, union}
+use Rattle.worklist.specs.Sets.{Set, empty, without}
 use Rattle.automaton.specs.declared.rules.Rule.{Rule}
 use Rattle.automaton.specs.Pushdown.{at}
 use Rattle.checker.specs.declared.answers.Report.{Report}
-use Rattle.checker.specs.Session.{Session, readers}
+use Rattle.checker.specs.Session.{Session}
 use Rattle.checker.specs.Calls.{stepped, looked, with_waiting, Steps, done, next as and_then}
 use Rattle.checker.proofs.Looking.{looked_none, looked_some}
 use Rattle.checker.proofs.Woken.{woken_low}

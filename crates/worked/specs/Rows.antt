@@ -1,5 +1,5 @@
 -- The worked table: surveys (symbol 0), posts (1) and purges (2), where control 1 means unposted.
-use Rattle.std.specs.Prelude.{◌≡◌, ℕ, true, false, List, [], ◌∷◌, ◌++◌, map, replicate, Some, None, Option}
+use Rattle.std.specs.Prelude.{◌≡◌, ℕ, true, false, List, [], ◌∷◌, map, replicate, Some, None, Option}
 use Rattle.automaton.specs.declared.sizes.Sizes.{Sizes}
 use Rattle.scale.specs.Semiring.{Semiring}
 use Rattle.scale.specs.WithNone.{with_none}
@@ -7,7 +7,7 @@ use Rattle.scale.specs.Minutes.{Time, time, minute_values}
 use Rattle.scale.specs.Flags.{Words, words, flag_values}
 use Rattle.checker.specs.Session.{Session}
 use Rattle.checker.specs.Calls.{opened}
-use Rattle.worked.specs.Performed.{Call, rule, edge, final, settle, question, replay, Said, report, answer, ran, stopped, added, said, row}
+use Rattle.worked.specs.Performed.{Call, rule, edge, final, settle, question, replay, Said, report, answer, ran, stopped, added, row}
 
 abbrev sizes : Sizes
 sizes = record { controls = 2; states = 3; symbols = 3; limit = 8 }
