@@ -1,4 +1,4 @@
-use crate::fixture::Fixture;
+use crate::bench::Bench;
 use scale::Scale;
 use scale::flags::Flags;
 use scale::minutes::Minutes;
@@ -7,7 +7,7 @@ use worklist::mark_table::MarkTable;
 
 #[test]
 fn extends_forwards(rt: HostRuntime) -> Result<(), Fail> {
-    let mut b = Fixture::open(MarkTable::new())?;
+    let mut b = Bench::open(MarkTable::new())?;
     let one = Flags::one();
     b.add_worked([
         Flags::new(0xffff_ffff, 1),
@@ -26,7 +26,7 @@ fn extends_forwards(rt: HostRuntime) -> Result<(), Fail> {
 // The last rule opens a way to control 1 and, only when it is looked at again, one from there back to control 0.
 #[test]
 fn puts_a_rule_again_that_reads_its_own_symbol(rt: HostRuntime) -> Result<(), Fail> {
-    let mut b = Fixture::open(MarkTable::new())?;
+    let mut b = Bench::open(MarkTable::new())?;
     let one = Flags::one();
     b.rule((0, 0), 0, &[], one)?;
     b.rule((0, 1), 1, &[], Flags::new(0xffff_ffff, 1))?;
@@ -44,7 +44,7 @@ fn puts_a_rule_again_that_reads_its_own_symbol(rt: HostRuntime) -> Result<(), Fa
 
 #[test]
 fn a_final_control_accepts_the_empty_word(rt: HostRuntime) -> Result<(), Fail> {
-    let mut b = Fixture::open(MarkTable::new())?;
+    let mut b = Bench::open(MarkTable::new())?;
     b.rule((0, 0), 1, &[], Minutes::new(3))?;
     b.mark_final(1)?;
     b.settle(100)?;

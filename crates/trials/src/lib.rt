@@ -3,7 +3,7 @@
 #[cfg(test)]
 mod astray;
 #[cfg(test)]
-mod fixture;
+mod bench;
 #[cfg(test)]
 mod pairs;
 #[cfg(test)]

@@ -1,4 +1,4 @@
-use crate::fixture::SIZES;
+use crate::bench::SIZES;
 use checker::record::Record;
 use checker::refusals::Refusal;
 use scale::Scale;

@@ -1,4 +1,4 @@
-use crate::fixture::{Fixture, SIZES};
+use crate::bench::{Bench, SIZES};
 use crate::single::Single;
 use checker::record::Record;
 use checker::refusals::Refusal;
@@ -15,13 +15,13 @@ fn number<T: Drop>(answer: Result<T, Refusal>) -> u8 {
     }
 }
 
-fn fixture() -> Result<Fixture<Minutes, MarkTable>, Refusal> {
-    Fixture::open(MarkTable::new())
+fn bench() -> Result<Bench<Minutes, MarkTable>, Refusal> {
+    Bench::open(MarkTable::new())
 }
 
 #[test]
 fn rules(rt: HostRuntime) -> Result<(), Fail> {
-    let mut b = fixture()?;
+    let mut b = bench()?;
     let f = Minutes::new(1);
     let long: [u8; 3] = [0, 1, 2];
     let bad: [u8; 3] = [0, 1, 3];
@@ -47,7 +47,7 @@ fn rules(rt: HostRuntime) -> Result<(), Fail> {
 
 #[test]
 fn the_ninth_rule(rt: HostRuntime) -> Result<(), Fail> {
-    let mut b = fixture()?;
+    let mut b = bench()?;
     for n in 0..8 {
         assert_eq!(rt; b.rule((0, 0), 0, &[], Minutes::new(1))?, n);
     }
@@ -58,7 +58,7 @@ fn the_ninth_rule(rt: HostRuntime) -> Result<(), Fail> {
 
 #[test]
 fn edges(rt: HostRuntime) -> Result<(), Fail> {
-    let mut b = fixture()?;
+    let mut b = bench()?;
     let cases = [
         (3, 0, 2, 5),
         (0, 0, 3, 5),
@@ -77,7 +77,7 @@ fn edges(rt: HostRuntime) -> Result<(), Fail> {
 
 #[test]
 fn finals_and_questions(rt: HostRuntime) -> Result<(), Fail> {
-    let mut b = fixture()?;
+    let mut b = bench()?;
     assert_eq!(rt; number(b.mark_final(3)), 5);
     assert_eq!(rt; number(b.mark_final(2)), 0);
     assert_eq!(rt; number(b.mark_final(2)), 0);

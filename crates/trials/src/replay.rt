@@ -1,4 +1,4 @@
-use crate::fixture::worked;
+use crate::bench::worked;
 use checker::refusals::Refusal;
 use std::test::Fail;
 

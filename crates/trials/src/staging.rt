@@ -1,4 +1,4 @@
-use crate::fixture::SIZES;
+use crate::bench::SIZES;
 use checker::passes::HandedBack;
 use checker::record::Record;
 use scale::Scale;

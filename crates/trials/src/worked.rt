@@ -1,4 +1,4 @@
-use crate::fixture::worked;
+use crate::bench::worked;
 use scale::Scale;
 use scale::minutes::Minutes;
 use std::test::Fail;

@@ -17,7 +17,7 @@ pub const SIZES: Sizes = Sizes {
 
 // A session of two controls, three states, three symbols and at most eight rules, with what its calls are lent.
 #[derive(Drop)]
-pub struct Fixture<S, K> {
+pub struct Bench<S, K> {
     pub record: Record,
     pub pass: Editing,
     pub edges: [S; 27],
@@ -26,12 +26,12 @@ pub struct Fixture<S, K> {
     pub worklist: K,
 }
 
-impl<S: Scale, K: Worklist + Drop> Fixture<S, K> {
-    pub fn open(mut worklist: K) -> Result<Fixture<S, K>, Refusal> {
+impl<S: Scale, K: Worklist + Drop> Bench<S, K> {
+    pub fn open(mut worklist: K) -> Result<Bench<S, K>, Refusal> {
         let mut edges = [S::none(); 27];
         let mut record = Record::new();
         let pass = record.open(SIZES, &mut edges, &mut worklist)?;
-        Ok(Fixture {
+        Ok(Bench {
             record,
             pass,
             edges,
@@ -108,8 +108,8 @@ impl<S: Scale, K: Worklist + Drop> Fixture<S, K> {
 }
 
 // The worked table with its minutes, over the mark table.
-pub fn worked() -> Result<Fixture<Minutes, MarkTable>, Refusal> {
-    let mut b = Fixture::open(MarkTable::new())?;
+pub fn worked() -> Result<Bench<Minutes, MarkTable>, Refusal> {
+    let mut b = Bench::open(MarkTable::new())?;
     b.add_worked([
         Minutes::new(5),
         Minutes::new(2),
