@@ -14,20 +14,8 @@ module _ (z : Sizes) where
   pub limit_bound : sizes_allowed z ≡ true → z.limit ≤ 512
   limit_bound h = grind (arith, nat_tests)
 
-  pub fit_allowed : (n : ℕ) → edges_fit z n ≡ true → sizes_allowed z ≡ true
-  fit_allowed n h = grind (arith, nat_tests)
-
-  pub fit_count : (n : ℕ) → edges_fit z n ≡ true → edge_count z ≤ n
-  fit_count n h = grind (arith, nat_tests)
-
   pub edge_bounds : (q g q2 : ℕ) → edge_fits z q g q2 ≡ true → (q < z.states) × (g < z.symbols) × (q2 < z.states)
   edge_bounds q g q2 h = (grind (arith, nat_tests), grind (arith, nat_tests), grind (arith, nat_tests))
-
-  pub edge_within : (q g q2 : ℕ) → q < z.states → g < z.symbols → q2 < z.states → edge_fits z q g q2 ≡ true
-  edge_within q g q2 hq hg hq2 = grind (arith, nat_tests)
-
-  pub read_from : (edges finals scratch q : ℕ) (w : List ℕ) → read_fits z edges finals scratch q w ≡ true → (q < z.states) × (2 * z.states ≤ scratch)
-  read_from edges finals scratch q w h = (grind (arith, nat_tests), grind (arith, nat_tests))
 
   pub fit_from : (n : ℕ) → sizes_allowed z ≡ true → edge_count z ≤ n → edges_fit z n ≡ true
   fit_from n allowed enough = grind (arith, nat_tests)

@@ -2,7 +2,6 @@ pub mod Numbered
 pub mod Options
 pub mod Bounds
 pub mod Places
-mod Clearing
 pub mod Combined
 pub mod RowFacts
 mod Saturated

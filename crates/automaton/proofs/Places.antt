@@ -1,12 +1,12 @@
 -- Places of edges, and the values of weights that are read there.
-use Rattle.std.proofs.Common.{◌≡◌, ℕ, ◌+◌, ◌*◌, ◌<◌, true, List, map, length, get_or, sym, ap, ◌∙◌, subst, mul_assoc, arith}
+use Rattle.std.proofs.Common.{◌≡◌, ℕ, ◌+◌, ◌*◌, ◌<◌, true, List, map, length, slice_index_or, take, drop, sym, ap, ◌∙◌, subst, mul_assoc}
 use Rattle.std.proofs.lemmas.Nat.{mul-add-lt}
-use Rattle.std.proofs.lemmas.List.{get_or-map}
-use Rattle.scale.specs.Semiring.{Semiring}
+use Rattle.std.proofs.lemmas.List.{get_or-map, get_or-take, get_or-drop}
+use Rattle.std.specs.List.{take-map, drop-map}
 use Rattle.automaton.specs.declared.sizes.Sizes.{Sizes}
-use Rattle.automaton.specs.Limits.{edge_count, edges_fit, edge_fits}
-use Rattle.automaton.specs.Layout.{place, edge_at}
-use Rattle.automaton.proofs.Bounds.{edge_bounds, fit_count}
+use Rattle.automaton.specs.Limits.{edge_count, edge_fits}
+use Rattle.automaton.specs.Layout.{place}
+use Rattle.automaton.proofs.Bounds.{edge_bounds}
 
 pub place_within : (z : Sizes) (q g q2 : ℕ) → edge_fits z q g q2 ≡ true → place z q g q2 < edge_count z
 place_within z q g q2 h =
@@ -16,12 +16,9 @@ place_within z q g q2 h =
     subst (λ n. place z q g q2 < n) (sym (mul_assoc z.states z.symbols z.states)) all
 
 -- the value of an element that was read
-pub value_read : {X V : Type 0} (value : X → V) (xs : List X) (i : ℕ) (x : X) (d : V) → i < length xs → x ≡ get_or xs i x → value x ≡ get_or (map value xs) i d
+pub value_read : {X V : Type 0} (value : X → V) (xs : List X) (i : ℕ) (x : X) (d : V) → i < length xs → x ≡ slice_index_or xs i x → value x ≡ slice_index_or (map value xs) i d
 value_read value xs i x d h read = ap value read ∙ sym (get_or-map value xs i x d h)
 
--- the value of an edge that was read
-pub edge_read : {X V : Type 0} (s : Semiring V) (value : X → V) (z : Sizes) (xs : List X) (q g q2 i : ℕ) (x : X)
-    → i ≡ place z q g q2 → i < edge_count z → edges_fit z (length xs) ≡ true → x ≡ get_or xs i x → value x ≡ edge_at s z (map value xs) q g q2
-edge_read s value z xs q g q2 i x is within room read =
-    let enough = fit_count z (length xs) room in
-    value_read value xs i x s.none (omega arith) read ∙ ap (λ n. get_or (map value xs) n s.none) is
+-- what a part of a row of weights has
+pub part_at : {X V : Type 0} (value : X → V) (xs : List X) (from n k : ℕ) (d : V) → k < n → slice_index_or (map value (take n (drop from xs))) k d ≡ slice_index_or (map value xs) (from + k) d
+part_at value xs from n k d h = simp (← take-map, ← drop-map, get_or-take, get_or-drop)

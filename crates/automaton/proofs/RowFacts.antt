@@ -1,21 +1,36 @@
 -- Rows of weights that are written place by place.
-use Rattle.std.proofs.Common.{◌≡◌, ℕ, zero, suc, ◌+◌, ◌<◌, Bool, true, ◌&&◌, ltb, List, [], ◌∷◌, ◌++◌, map, length, get_or, drop, set, sym, refl, ap, ◌∙◌, arith}
-use Rattle.std.proofs.lemmas.List.{map-set, length-map, get_or-set_same, get_or-set_other, at_drop_more}
-use Rattle.std.proofs.lemmas.Bool.{and_parts, ltb-true}
+use Rattle.std.proofs.Common.{◌≡◌, ℕ, zero, suc, ◌+◌, ◌<◌, ◌≤◌, Bool, List, [], ◌∷◌, ◌++◌, map, length, slice_index_or, take, drop, slice_set, sym, refl, ap, ◌∙◌, arith, below_more, append_assoc}
+use Rattle.std.proofs.lemmas.List.{map-set, map-append, length-map, length-take, get_or-take, get_or_append_left, get_or-set_same, get_or-set_other}
+use Rattle.std.proofs.Math.Seq.{drop-append_seam}
+use Rattle.std.specs.List.{take-map}
 use Rattle.scale.specs.Semiring.{Semiring, Combines, Distributes, Absorbs, combined}
 use Rattle.automaton.specs.Automaton.{Edges, below, joined, path_weights, answer}
-use Rattle.automaton.specs.Limits.{all_below}
 use Rattle.automaton.specs.Rows.{at_place, onward}
 use Rattle.automaton.proofs.Combined.{combined_push}
 
-pub place_same : {X V : Type 0} (s : Semiring V) (value : X → V) (xs : List X) (i : ℕ) (x : X) → i < length xs → at_place s (map value (set xs i x)) i ≡ value x
+pub place_same : {X V : Type 0} (s : Semiring V) (value : X → V) (xs : List X) (i : ℕ) (x : X) → i < length xs → at_place s (map value (slice_set xs i x)) i ≡ value x
 place_same s value xs i x h =
     let within : i < length (map value xs) = rw length-map h in
-    ap (λ vs. get_or vs i s.none) (map-set value xs i x) ∙ get_or-set_same (map value xs) i (value x) s.none within
+    ap (λ vs. slice_index_or vs i s.none) (map-set value xs i x) ∙ get_or-set_same (map value xs) i (value x) s.none within
 
-pub place_other : {X V : Type 0} (s : Semiring V) (value : X → V) (xs : List X) (i k : ℕ) (x : X) → (k ≡ i → ⊥) → at_place s (map value (set xs i x)) k ≡ at_place s (map value xs) k
+pub place_other : {X V : Type 0} (s : Semiring V) (value : X → V) (xs : List X) (i k : ℕ) (x : X) → (k ≡ i → ⊥) → at_place s (map value (slice_set xs i x)) k ≡ at_place s (map value xs) k
 place_other s value xs i k x h =
-    ap (λ vs. get_or vs k s.none) (map-set value xs i x) ∙ get_or-set_other (map value xs) i k (value x) s.none h
+    ap (λ vs. slice_index_or vs k s.none) (map-set value xs i x) ∙ get_or-set_other (map value xs) i k (value x) s.none h
+
+-- one place more of a row that is written in rising order
+pub written_more : {X V : Type 0} (s : Semiring V) (value : X → V) (xs : List X) (i : ℕ) (x : X) (f : ℕ → V)
+    → i < length xs → ((k : ℕ) → k < i → at_place s (map value xs) k ≡ f k) → value x ≡ f i → (k : ℕ) → k < i + 1 → at_place s (map value (slice_set xs i x)) k ≡ f k
+written_more s value xs i x f within before is =
+    below_more (λ k. at_place s (map value (slice_set xs i x)) k ≡ f k) i (λ k h. place_other s value xs i k x (λ e. omega arith) ∙ before k h) (place_same s value xs i x within ∙ is)
+
+-- the places of a row's first part
+pub place_front : {X V : Type 0} (s : Semiring V) (value : X → V) (xs ys : List X) (k : ℕ) → k < length xs → at_place s (map value (xs ++ ys)) k ≡ at_place s (map value xs) k
+place_front s value xs ys k h =
+    let within : k < length (map value xs) = rw length-map h in
+    ap (λ vs. at_place s vs k) (map-append value xs ys) ∙ get_or_append_left (map value xs) (map value ys) s.none k within
+
+pub place_taken : {X V : Type 0} (s : Semiring V) (value : X → V) (xs : List X) (n k : ℕ) → k < n → at_place s (map value (take n xs)) k ≡ at_place s (map value xs) k
+place_taken s value xs n k h = ap (λ vs. at_place s vs k) (sym (take-map value n xs)) ∙ get_or-take n (map value xs) k s.none h
 
 pub below_same : {A : Type 0} (n : ℕ) (f g : ℕ → A) → ((k : ℕ) → k < n → f k ≡ g k) → below n f ≡ below n g
 below_same zero f g h = refl
@@ -63,24 +78,27 @@ module _ {V : Type 0} (s : Semiring V) (c : Combines s) where
         ∙ ap (combined s) (below_same n (λ m. combined s (map (s.extend (e q g m)) (path_weights s e n final m w))) (onward s e (λ m. answer s e n final m w) q g)
         (λ m l. combined_extend (e q g m) (path_weights s e n final m w)))
 
-pub all_below_step : (n : ℕ) (w : List ℕ) (i : ℕ) → i < length w → all_below n (drop i w) ≡ (ltb (get_or w i 0) n && all_below n (drop (i + 1) w))
-all_below_step n w i h = at_drop_more (all_below n) w i 0 h
-
--- what one symbol more in front makes of a row of answers
-pub answers_more : {V : Type 0} (s : Semiring V) → Combines s → Distributes s → Absorbs s → (e : Edges V) (n : ℕ) (final : ℕ → Bool) (w : List ℕ) (i : ℕ) (before middle after : ℕ → V)
-    → i < length w
-    → ((k : ℕ) → k < n → before k ≡ answer s e n final k (drop (i + 1) w))
-    → ((k : ℕ) → k < n → middle (n + k) ≡ combined s (below n (onward s e before k (get_or w i 0))))
-    → ((k : ℕ) → k < n → after k ≡ middle (n + k))
-    → (k : ℕ) → k < n → after k ≡ answer s e n final k (drop i w)
-answers_more s c d o e n final w i before middle after within was made kept k h =
-    kept k h
+-- one symbol more in front: the next row is made from the row of answers, and then copied over it
+pub answers_more : {X V : Type 0} (s : Semiring V) → Combines s → Distributes s → Absorbs s → (value : X → V) (e : Edges V) (n : ℕ) (final : ℕ → Bool) (g : ℕ) (w : List ℕ) (scratch row next kept : List X)
+    → row ≡ take n scratch → kept ≡ take n next → n ≤ length next
+    → ((k : ℕ) → k < n → at_place s (map value scratch) k ≡ answer s e n final k w)
+    → ((k : ℕ) → k < n → at_place s (map value next) k ≡ combined s (below n (onward s e (at_place s (map value row)) k g)))
+    → (k : ℕ) → k < n → at_place s (map value (kept ++ next)) k ≡ answer s e n final k (g ∷ w)
+answers_more {X = X} s c d o value e n final g w scratch row next kept front copied room was made k h =
+    let places = λ (xs : List X). at_place s (map value xs) in
+    let within : k < length kept = rw copied (omega (arith, length-take n next)) in
+    place_front s value kept next k within
+    ∙ ap (λ xs. places xs k) copied
+    ∙ place_taken s value next n k h
     ∙ made k h
-    ∙ onward_same s e before (λ m. answer s e n final m (drop (i + 1) w)) n k (get_or w i 0) was
-    ∙ sym (answer_more s c d o e n final k (get_or w i 0) (drop (i + 1) w))
-    ∙ sym (at_drop_more (answer s e n final k) w i 0 within)
+    ∙ onward_same s e (places row) (λ m. answer s e n final m w) n k g (λ m l. ap (λ xs. places xs m) front ∙ place_taken s value scratch n m l ∙ was m l)
+    ∙ sym (answer_more s c d o e n final k g w)
 
-pub below_at : (n : ℕ) (w : List ℕ) (i : ℕ) → all_below n w ≡ true → i < length w → get_or w i 0 < n
-below_at n [] i all h = absurd (omega arith)
-below_at n (x ∷ w) zero all h = ltb-true x n (and_parts (ltb x n) (all_below n w) all).0
-below_at n (x ∷ w) (suc i) all h = below_at n w i (and_parts (ltb x n) (all_below n w) all).1 (omega arith)
+-- a word that is read from its end, and one symbol more
+pub read_more : {A : Type 0} (w rest left : List A) (x : A) → w ≡ rest ++ drop (length rest) w → rest ≡ left ++ (x ∷ [])
+    → (drop (length left) w ≡ x ∷ drop (length rest) w) × (w ≡ left ++ drop (length left) w)
+read_more w rest left x parts last =
+    let read = drop (length rest) w in
+    let is = parts ∙ ap (λ ys. ys ++ read) last ∙ append_assoc left (x ∷ []) read in
+    let more : drop (length left) w ≡ x ∷ read = ap (drop (length left)) is ∙ drop-append_seam left (x ∷ read) in
+    (more, is ∙ ap (λ ys. left ++ ys) (sym more))

@@ -1,5 +1,5 @@
 -- Edges in a row of weights, and the step of a rule on them.
-use Rattle.std.specs.Prelude.{ℕ, zero, suc, ◌+◌, ◌*◌, Bool, true, false, cond, not, List, Some, None, Option, slice_index_or, slice_set}
+use Rattle.std.specs.Prelude.{ℕ, zero, suc, ◌+◌, ◌*◌, Bool, if◌then◌else◌, not, List, slice_index_or, slice_set}
 use Rattle.scale.specs.Semiring.{Semiring}
 use Rattle.automaton.specs.declared.rules.Rule.{Rule}
 use Rattle.automaton.specs.declared.sizes.Sizes.{Sizes}
@@ -8,11 +8,6 @@ use Rattle.automaton.specs.Automaton.{Edges, rule_value}
 -- the place of the edge from q by g to q2
 abbrev pub place : Sizes → ℕ → ℕ → ℕ → ℕ
 place z q g q2 = (q * z.symbols + g) * z.states + q2
-
--- an answer that is given only if a test holds
-abbrev pub only_if : {A : Type 0} → Bool → A → Option A
-only_if true x = Some x
-only_if false x = None
 
 module _ {V : Type 0} (s : Semiring V) where
   -- the edges that a row of weights holds
@@ -41,4 +36,4 @@ module _ {V : Type 0} (s : Semiring V) where
   saturated z r f vs (suc k) =
       let before = saturated z r f vs k in
       let worth = value_at z r f before.0 k in
-      (edge_set z before.0 r.control r.symbol k worth, before.1 + cond (edge_changes z before.0 r.control r.symbol k worth) 1 0)
+      (edge_set z before.0 r.control r.symbol k worth, before.1 + (if edge_changes z before.0 r.control r.symbol k worth then 1 else 0))

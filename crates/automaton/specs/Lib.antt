@@ -3,3 +3,4 @@ pub mod Automaton
 pub mod Limits
 pub mod Layout
 pub mod Rows
+pub mod Edges

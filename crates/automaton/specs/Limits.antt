@@ -1,5 +1,6 @@
 -- Which sizes are allowed, and what fits them.
-use Rattle.std.specs.Prelude.{ℕ, ◌*◌, Bool, true, ◌&&◌, List, [], ◌∷◌, nat_le, nat_lt}
+use Rattle.std.specs.Prelude.{ℕ, ◌*◌, Bool, ◌&&◌, List, nat_le, nat_lt}
+use Rattle.std.specs.List.{list_all}
 use Rattle.automaton.specs.declared.rules.Rule.{Rule}
 use Rattle.automaton.specs.declared.sizes.Sizes.{Sizes}
 use Rattle.automaton.specs.Pushdown.{symbols}
@@ -14,16 +15,14 @@ abbrev pub edge_count : Sizes → ℕ
 edge_count z = z.states * z.symbols * z.states
 
 abbrev pub all_below : ℕ → List ℕ → Bool
-all_below n [] = true
-all_below n (x ∷ xs) = nat_lt x n && all_below n xs
+all_below n xs = list_all (λ x. nat_lt x n) xs
 
 -- a rule that names only controls and symbols of the sizes
 abbrev pub rule_fits : Sizes → Rule → Bool
 rule_fits z r = nat_lt r.control z.controls && (nat_lt r.target z.controls && (nat_lt r.symbol z.symbols && all_below z.symbols (symbols r.word)))
 
 abbrev pub all_fit : Sizes → List Rule → Bool
-all_fit z [] = true
-all_fit z (r ∷ rs) = rule_fits z r && all_fit z rs
+all_fit z rs = list_all (rule_fits z) rs
 
 -- sizes that are allowed, and enough places for their edges
 abbrev pub edges_fit : Sizes → ℕ → Bool

@@ -1,5 +1,7 @@
 -- Pushdown systems: rules, configurations and runs.
-use Rattle.std.specs.Prelude.{ℕ, zero, suc, Bool, false, cond, ◌&&◌, ◌||◌, List, [], ◌∷◌, ◌++◌, Some, None, Option, ◌==◌, slice_index_or}
+use Rattle.std.specs.Prelude.{ℕ, Bool, cond, ◌&&◌, List, [], ◌∷◌, ◌++◌, Some, None, Option, ◌==◌, slice_get, slice_index_or}
+use Rattle.std.specs.List.{list_any}
+use Rattle.std.specs.Option.{option_and_then}
 use Rattle.scale.specs.Semiring.{Semiring}
 use Rattle.automaton.specs.declared.rules.Word.{Word}
 use Rattle.automaton.specs.declared.rules.Word.TheVariants.{Pop, Swap, Push}
@@ -19,28 +21,24 @@ word_of (a ∷ (b ∷ w)) = Push a b
 
 -- whether a word has a symbol
 abbrev pub has : List ℕ → ℕ → Bool
-has [] g = false
-has (a ∷ w) g = a == g || has w g
+has w g = list_any (λ a. a == g) w
 
 -- a control, and a word with its top first
 pub record Config : Type 0 where
   pub control : ℕ
   pub word : List ℕ
 
--- what a rule makes of a configuration that it fits
+-- what a rule makes of a configuration that it fits; by `cond`, since `then` has a meaning of its own below
 abbrev pub applied : Rule → ℕ → List ℕ → Option Config
 applied r p [] = None
 applied r p (g ∷ w) = cond (r.control == p && r.symbol == g) (Some (record { control = r.target; word = symbols r.word ++ w })) None
 
 -- what a list has at a number, if it is so long
 abbrev pub at : {A : Type 0} → List A → ℕ → Option A
-at [] n = None
-at (x ∷ xs) zero = Some x
-at (x ∷ xs) (suc n) = at xs n
+at xs n = slice_get xs n
 
 abbrev pub then : {A B : Type 0} → Option A → (A → Option B) → Option B
-then None f = None
-then (Some x) f = f x
+then o f = option_and_then f o
 
 -- where a run ends; None where a number names no rule, or its rule does not fit what the one before yielded
 abbrev pub ends : List Rule → List ℕ → Config → Option Config

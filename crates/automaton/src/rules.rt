@@ -1,12 +1,14 @@
 ghost use Rattle.std.specs.Prelude.{◌≡◌, length, nat_le};
+ghost use Rattle.std.specs.Bool.{then_some};
+ghost use Rattle.std.specs.Result.{result_ok};
 ghost use Rattle.automaton.specs.Limits.{all_below, rule_fits};
-ghost use Rattle.automaton.specs.Layout.{only_if};
 ghost use Rattle.automaton.specs.Pushdown.{symbols, word_of, has};
 
 use crate::sizes::Sizes;
+use thiserror::Error;
 
 // The word that a rule leaves in the place of the top symbol.
-#[derive(Clone, Copy)]
+#[derive(Clone, Copy, Debug, PartialEq, Eq)]
 pub enum Word {
     Pop,
     Swap(u8),
@@ -14,7 +16,7 @@ pub enum Word {
 }
 
 // From `control` with `symbol` on top to `target`, with the top replaced by `word`.
-#[derive(Clone, Copy)]
+#[derive(Clone, Copy, Debug, PartialEq, Eq)]
 pub struct Rule {
     pub control: usize,
     pub symbol: u8,
@@ -22,19 +24,27 @@ pub struct Rule {
     pub word: Word,
 }
 
-impl Word {
-    // The word of at most two symbols.
-    pub fn of_symbols(symbols: &[u8]) -> Option<Word>
-        ensures { result ≡ only_if (nat_le (length symbols.now) 2) (word_of symbols.now) }
-    {
+// More than two symbols, which no rule leaves.
+#[derive(Clone, Copy, Debug, PartialEq, Eq, Error)]
+#[error("a rule's word has more than two symbols")]
+pub struct LongWord;
+
+impl TryFrom<&[u8]> for Word {
+    type Error = LongWord;
+
+    ghost try_from_gives = { λ symbols result. result_ok result ≡ then_some (nat_le (length symbols.now) 2) (word_of symbols.now) };
+
+    fn try_from(symbols: &[u8]) -> Result<Word, LongWord> {
         match symbols {
-            [] => Some(Word::Pop),
-            [only] => Some(Word::Swap(*only)),
-            [first, second] => Some(Word::Push(*first, *second)),
-            _ => None,
+            [] => Ok(Word::Pop),
+            [only] => Ok(Word::Swap(*only)),
+            [first, second] => Ok(Word::Push(*first, *second)),
+            _ => Err(LongWord),
         }
     }
+}
 
+impl Word {
     pub fn has_symbol(self, symbol: u8) -> bool
         ensures { result ≡ has (symbols self) symbol }
     {

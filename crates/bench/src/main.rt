@@ -4,29 +4,18 @@ mod numbers;
 mod samples;
 mod session;
 
-use anyhow::anyhow;
 use automaton::sizes::Sizes;
-use checker::record::Record;
-use checker::refusals::Refusal;
-use numbers::Numbers;
+use checker::answers::Report;
 use samples::Sample;
 use scale::flags::Flags;
 use scale::minutes::Minutes;
 use scale::yes_no::YesNo;
-use session::{digest, prepare};
-use std::alloc::Global;
+use session::Session;
 use std::env;
 use std::time::Instant;
 use worklist::Worklist;
 use worklist::mark_table::MarkTable;
 use worklist::ring::Ring;
-
-// Room for the largest session.
-const EDGES: usize = 28_800;
-
-const RULES: usize = 512;
-
-const SCRATCH: usize = 120;
 
 const fn sizes(controls: usize, states: usize, rules: usize) -> Sizes {
     Sizes {
@@ -34,17 +23,6 @@ const fn sizes(controls: usize, states: usize, rules: usize) -> Sizes {
         states,
         symbols: 8,
         limit: rules,
-    }
-}
-
-// What a call answered; a refusal is an error here.
-fn accepted<T>(heap: Global, answer: Result<T, Refusal>) -> anyhow::Result<T> {
-    match answer {
-        Ok(value) => Ok(value),
-        Err(refusal) => {
-            let number = refusal.number();
-            Err(anyhow!(format!(in heap; "a call was refused with {number}")?))
-        }
     }
 }
 
@@ -57,34 +35,14 @@ fn measure<S: Sample + Clone, K: Worklist>(
     worklist: &mut K,
     timed: bool,
 ) -> anyhow::Result<()> {
-    let heap = rt.alloc();
-    let mut edges = vec![in heap; S::none(); EDGES]?;
-    let mut weights = vec![in heap; S::none(); RULES]?;
-    let mut scratch = vec![in heap; S::none(); SCRATCH]?;
-    let mut numbers = Numbers::new(7);
-    let mut record = Record::new();
-    let prepared = prepare(
-        &mut numbers,
-        sizes,
-        &mut record,
-        &mut edges,
-        &mut weights,
-        worklist,
-    );
-    let pass = accepted(heap, prepared)?;
+    let mut session = Session::<S, K>::open(rt.alloc(), sizes, worklist)?;
+    session.fill()?;
     let begun = Instant::now(rt)?;
-    let report = accepted(
-        heap,
-        record.settle(&pass, &mut edges, &weights, worklist, u32::MAX),
-    )?;
+    let Report { steps, raises, .. } = session.settle()?;
     let micros = begun.elapsed(rt)?.as_micros();
-    let answers = digest(&mut numbers, sizes, &record, &edges, &mut scratch, worklist);
-    let digest = accepted(heap, answers)?;
-    let states = sizes.states;
-    let rules = sizes.limit;
-    let steps = report.steps;
-    let raises = report.raises;
-    print!(rt; "{name},{states},{rules},{steps},{raises},{digest}")?;
+    let digest = session.digest()?;
+    let Sizes { states, limit, .. } = sizes;
+    print!(rt; "{name},{states},{limit},{steps},{raises},{digest}")?;
     if timed {
         let rate = (steps as u128 * 1_000_000).checked_div(micros).unwrap_or(0);
         print!(rt; ",{micros},{rate}")?;
@@ -102,15 +60,15 @@ fn measure_scales<K: Worklist>(
     timed: bool,
 ) -> anyhow::Result<()> {
     measure::<YesNo, K>(rt, names[0], sizes, worklist, timed)?;
-    measure::<Minutes, K>(rt, names[1], sizes, worklist, timed)?;
-    measure::<Flags, K>(rt, names[2], sizes, worklist, timed)
+    measure::<Option<Minutes>, K>(rt, names[1], sizes, worklist, timed)?;
+    measure::<Option<Flags>, K>(rt, names[2], sizes, worklist, timed)
 }
 
 // Without an argument, only what is the same in every run; with one, the times too.
 fn main(rt: HostRuntime) -> anyhow::Result<()> {
     let timed = env::args(&rt)?.count() > 1;
     let mut marks = MarkTable::new();
-    let mut slots = [0; RULES];
+    let mut slots = [0; 512];
     let mut ring = Ring::new(&mut slots);
     let with_marks = ["yes,marks", "minutes,marks", "flags,marks"];
     let with_ring = ["yes,ring", "minutes,ring", "flags,ring"];

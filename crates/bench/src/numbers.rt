@@ -27,7 +27,6 @@ impl Numbers {
     pub(crate) fn below(&mut self, bound: usize) -> usize
         ensures { result ≡ remainder (self.new.state / 65536) bound }
     {
-        let number = self.next() as usize;
-        if bound == 0 { 0 } else { number % bound }
+        (self.next() as usize).checked_rem(bound).unwrap_or(0)
     }
 }

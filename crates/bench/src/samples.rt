@@ -20,28 +20,26 @@ impl Sample for YesNo {
     }
 }
 
-impl Sample for Minutes {
-    fn sample(number: u32) -> Minutes {
-        Minutes::new(1 + number % 97)
+impl Sample for Option<Minutes> {
+    fn sample(number: u32) -> Option<Minutes> {
+        Some(Minutes::new(1 + number % 97))
     }
 
     fn digest(self) -> u64 {
-        match self.count() {
-            Some(count) => count as u64 + 1,
-            None => 0,
-        }
+        self.map_or(0, |minutes| minutes.count() as u64 + 1)
     }
 }
 
-impl Sample for Flags {
-    fn sample(number: u32) -> Flags {
-        Flags::new(!(1 << (number % 32)), 1 << (number / 32 % 32))
+impl Sample for Option<Flags> {
+    fn sample(number: u32) -> Option<Flags> {
+        let keep = !(1 << (number % 32));
+        let set = 1 << (number / 32 % 32);
+        Some(Flags::new(keep, set))
     }
 
     fn digest(self) -> u64 {
-        match (self.keep(), self.set()) {
-            (Some(keep), Some(set)) => keep.wrapping_mul(31).wrapping_add(set) as u64 + 1,
-            _ => 0,
-        }
+        self.map_or(0, |flags| {
+            flags.keep().wrapping_mul(31).wrapping_add(flags.set()) as u64 + 1
+        })
     }
 }

@@ -9,9 +9,9 @@ use std::io;
 use worklist::mark_table::MarkTable;
 
 fn main(rt: HostRuntime) -> io::Result<()> {
-    guarantee::promises_hold::<Minutes, MarkTable>();
+    guarantee::promises_hold::<Option<Minutes>, MarkTable>();
     worked::rows_hold();
-    worked::smallest_first_settles::<Minutes>();
+    worked::smallest_first_settles::<Option<Minutes>>();
     match run() {
         Ok(lines) => {
             for line in &lines {

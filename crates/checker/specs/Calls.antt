@@ -1,5 +1,5 @@
 -- What an accepted call answers and leaves.
-use Rattle.std.specs.Prelude.{◌≡◌, ℕ, ◌+◌, ◌-◌, ◌^◌, ◌≤◌, min, Bool, true, false, cond, List, [], ◌∷◌, ◌++◌, length, drop, replicate, Some, None, Decides, Option, nat_lt, slice_index_or, slice_set}
+use Rattle.std.specs.Prelude.{◌≡◌, ℕ, ◌+◌, ◌-◌, ◌^◌, ◌≤◌, min, ◌↔◌, Bool, true, false, if◌then◌else◌, List, [], ◌∷◌, ◌++◌, length, drop, replicate, Some, None, IsTrue, Option, nat_lt, slice_index_or, slice_set}
 use Rattle.scale.specs.Semiring.{Semiring}
 use Rattle.worklist.specs.Sets.{Set, empty, adding, without, union}
 use Rattle.automaton.specs.declared.rules.Rule.{Rule}
@@ -74,7 +74,7 @@ module _ {V : Type 0} (s : Semiring V) where
     table = c.table;
     edges = edge_set s c.table.sizes c.edges q g q2 f;
     weights = c.weights;
-    waiting = cond (changes c q g q2 f) (union c.waiting (readers c.table.rules g)) c.waiting;
+    waiting = if changes c q g q2 f then union c.waiting (readers c.table.rules g) else c.waiting;
     room = c.room;
   }
 
@@ -91,7 +91,7 @@ module _ {V : Type 0} (s : Semiring V) where
                 table = t;
                 edges = row.0;
                 weights = c.weights;
-                waiting = cond (nat_lt 0 row.1) (union c.waiting (readers t.rules r.symbol)) c.waiting;
+                waiting = if nat_lt 0 row.1 then union c.waiting (readers t.rules r.symbol) else c.waiting;
                 room = c.room;
               },
               row.1,
@@ -118,7 +118,7 @@ module _ {V : Type 0} (s : Semiring V) where
     pub made : Steps c taken d r.raises
     pub steps : r.steps ≡ length taken
     pub within : r.steps ≤ budget
-    pub settled : Decides r.settled (d.waiting ≡ empty)
+    pub settled : IsTrue r.settled ↔ (d.waiting ≡ empty)
     pub spent : r.settled ≡ false → r.steps ≡ budget
 
   -- the combine of the weights, as they stand, of all paths from p that read w and end in a final state

@@ -1,5 +1,5 @@
 -- When a call is refused, and what then.
-use Rattle.std.specs.Prelude.{ℕ, ◌*◌, Bool, true, false, cond, not, ◌&&◌, ◌||◌, List, [], ◌∷◌, length, Some, None, Ok, Err, Option, Result, nat_le, nat_lt}
+use Rattle.std.specs.Prelude.{ℕ, ◌*◌, ◌≤◌, Bool, true, false, if◌then◌else◌, not, ◌&&◌, ◌||◌, List, [], ◌∷◌, length, Some, None, Ok, Err, Option, Result, nat_le, nat_lt}
 use Rattle.automaton.specs.declared.sizes.Sizes.{Sizes}
 use Rattle.automaton.specs.Limits.{sizes_allowed, edge_count, all_below}
 use Rattle.checker.specs.declared.stages.Stage.{Stage}
@@ -11,7 +11,7 @@ use Rattle.checker.specs.Session.{Table, Session}
 -- the first reason whose test holds
 abbrev pub first : List (Bool × Reason) → Option Reason
 first [] = None
-first (t ∷ ts) = cond t.0 (Some t.1) (first ts)
+first (t ∷ ts) = if t.0 then Some t.1 else first ts
 
 abbrev pub refused_or : {A : Type 0} → Option Reason → A → Result A Reason
 refused_or None x = Ok x
@@ -76,6 +76,14 @@ open_tests z edges room =
 abbrev pub open_refusal : Sizes → ℕ → ℕ → Option Reason
 open_refusal z edges room = first (open_tests z edges room)
 
+-- the tests with which rule, edge and settle begin, where the slices that they are lent are long enough or not
+abbrev pub editing_tests : Table → Bool → ℕ → List (Bool × Reason)
+editing_tests t enough room =
+    (not (is_editing t.stage), reason no.WrongStage)
+    ∷ ((not enough, reason no.TooShort)
+    ∷ ((nat_lt room t.sizes.limit, reason no.SmallWorklist)
+    ∷ []))
+
 module _ {V : Type 0} where
   abbrev pub rule_tests : Session V → ℕ → ℕ → ℕ → List ℕ → List (Bool × Reason)
   rule_tests c p g p2 w =
@@ -116,6 +124,12 @@ module _ {V : Type 0} where
 
   abbrev pub settle_refusal : Session V → Option Reason
   settle_refusal c = first (settle_tests c)
+
+  -- what a step needs of what a settle is lent
+  pub record CanStep (c : Session V) : Type 0 where
+    pub edges : edge_count c.table.sizes ≤ length c.edges
+    pub weights : c.table.sizes.limit ≤ length c.weights
+    pub room : c.table.sizes.limit ≤ c.room
 
   abbrev pub question_tests : Bool → Session V → ℕ → ℕ → List ℕ → List (Bool × Reason)
   question_tests staged c scratch p w =

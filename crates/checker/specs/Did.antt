@@ -1,5 +1,5 @@
 -- Calls on a session, each with what it was given and what it answered, and what they do.
-use Rattle.std.specs.Prelude.{◌≡◌, ℕ, Bool, List, length, Some, None, Err, Decides, Result, MatchResult}
+use Rattle.std.specs.Prelude.{◌≡◌, ℕ, ◌↔◌, Bool, List, length, Some, None, Err, IsTrue, Result, MatchResult}
 use Rattle.scale.specs.Semiring.{Semiring}
 use Rattle.worklist.specs.Sets.{Set, empty}
 use Rattle.checker.specs.declared.answers.Report.{Report}
@@ -28,7 +28,7 @@ Marked t q r u =
 -- a release answered r and took the table t, while the numbers of w waited, to u
 abbrev pub ReleasedTo : Table → Set → Result (Unit {0}) Reason → Table → Type 0
 ReleasedTo t w r u =
-    (idle : Bool) × Decides idle (w ≡ empty) × (r ≡ refused_or (release_refusal t idle) tt) × (u ≡ left_or (release_refusal t idle) t (in_stage t Released))
+    (idle : Bool) × (IsTrue idle ↔ (w ≡ empty)) × (r ≡ refused_or (release_refusal t idle) tt) × (u ≡ left_or (release_refusal t idle) t (in_stage t Released))
 
 -- a withdrawal answered r and took the table t to u
 abbrev pub WithdrawnTo : Table → Result (Unit {0}) Reason → Table → Type 0
@@ -63,7 +63,7 @@ module _ {V : Type 0} (s : Semiring V) where
       ]
   Did c (question p w n r) d =
       let refusal = question_refusal (is_open c.table.stage) c n p w in
-      (d ≡ c) × MatchResult r (λ x. (refusal ≡ None) × (x.0 ≡ asked s c p w) × Decides x.1 (c.waiting ≡ empty)) (λ e. refusal ≡ Some e)
+      (d ≡ c) × MatchResult r (λ x. (refusal ≡ None) × (x.0 ≡ asked s c p w) × (IsTrue x.1 ↔ (c.waiting ≡ empty))) (λ e. refusal ≡ Some e)
   Did c (released_question p w n r) d =
       let refusal = question_refusal (is_released c.table.stage) c n p w in
       (d ≡ c) × (r ≡ refused_or refusal (asked s c p w))

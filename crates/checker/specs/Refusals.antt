@@ -1,5 +1,7 @@
 -- Why a call was not done.
 use Rattle.std.specs.Prelude.{ℕ, List, [], ◌∷◌, Some, None, Ok, Err, Option, Result}
+use Rattle.runs.specs.declared.replay.Stop.{Stop}
+use Rattle.runs.specs.declared.replay.Stop.TheVariants as stop
 use Rattle.checker.specs.declared.refusals.Refusal.{Refusal}
 use Rattle.checker.specs.declared.refusals.Refusal.TheVariants.{Sizes, TooShort, SmallWorklist, WrongStage, NoState, NoSymbol, LongWord, IntoControl, Full, Waiting, Misfit, NoRoom}
 
@@ -23,8 +25,14 @@ reason LongWord = because 7
 reason IntoControl = because 8
 reason Full = because 9
 reason Waiting = because 10
-reason (Misfit place control length) = record { number = 11; values = place ∷ (control ∷ (length ∷ [])) }
-reason (NoRoom place control length) = record { number = 12; values = place ∷ (control ∷ (length ∷ [])) }
+reason (Misfit at) = record { number = 11; values = at.place ∷ (at.control ∷ (at.length ∷ [])) }
+reason (NoRoom at) = record { number = 12; values = at.place ∷ (at.control ∷ (at.length ∷ [])) }
+
+-- a replay that is not begun or was broken off is refused
+abbrev pub stop_reason : Stop → Reason
+stop_reason stop.TooShort = reason TooShort
+stop_reason (stop.Misfit at) = reason (Misfit at)
+stop_reason (stop.NoRoom at) = reason (NoRoom at)
 
 -- what a call answered, with a refusal by its number
 abbrev pub told : {A : Type 0} → Result A Refusal → Result A Reason
@@ -35,8 +43,3 @@ told (Err e) = Err (reason e)
 abbrev pub outcome : {A : Type 0} → Result A Refusal → Option Reason
 outcome (Ok x) = None
 outcome (Err e) = Some (reason e)
-
--- P holds if the call was refused
-abbrev pub OnRefusal : {A : Type 0} → Result A Refusal → Type 0 → Type 0
-OnRefusal (Ok x) P = Unit {0}
-OnRefusal (Err e) P = P

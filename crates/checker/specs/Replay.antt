@@ -3,11 +3,10 @@ use Rattle.std.specs.Prelude.{◌≡◌, ℕ, Bool, not, ◌||◌, List, [], ◌
 use Rattle.scale.specs.Semiring.{Semiring}
 use Rattle.automaton.specs.Limits.{all_below}
 use Rattle.runs.specs.declared.replay.Stop.{Stop}
-use Rattle.runs.specs.declared.replay.Stop.TheVariants.{Misfit, NoRoom}
 use Rattle.runs.specs.Stacks.{Point, replayed}
 use Rattle.runs.specs.Points.{start}
 use Rattle.checker.specs.declared.refusals.Refusal.TheVariants as no
-use Rattle.checker.specs.Refusals.{Reason, reason}
+use Rattle.checker.specs.Refusals.{Reason, reason, stop_reason}
 use Rattle.checker.specs.Session.{Table}
 use Rattle.checker.specs.Checks.{first, left_or, is_open}
 
@@ -23,11 +22,7 @@ replay_tests t weights p buffer n =
 abbrev pub replay_refusal : Table → ℕ → ℕ → List ℕ → ℕ → Option Reason
 replay_refusal t weights p buffer n = first (replay_tests t weights p buffer n)
 
--- a run that was broken off is refused
-abbrev pub stop_reason : Stop → Reason
-stop_reason (Misfit place control length) = reason (no.Misfit place control length)
-stop_reason (NoRoom place control length) = reason (no.NoRoom place control length)
-
+-- what a run answers, with a stop told by its reason
 abbrev pub stopped : {A : Type 0} → Result A Stop → Result A Reason
 stopped (Ok x) = Ok x
 stopped (Err e) = Err (stop_reason e)

@@ -1,9 +1,6 @@
 -- What a record, and the slices and the worklist that a call is lent, say of a session.
 use Rattle.std.specs.Prelude.{ℕ, Bool, List, map, take, Ok, Err, Result, slice_set}
 use Rattle.worklist.specs.Sets.{Set}
-use Rattle.runs.specs.declared.replay.Run.{Run}
-use Rattle.runs.specs.Stacks.{Point}
-use Rattle.runs.specs.Points.{point}
 use Rattle.checker.specs.declared.answers.Answer.{Answer}
 use Rattle.checker.specs.declared.passes.HandedBack.{HandedBack}
 use Rattle.checker.specs.declared.record.Record.{Record}
@@ -45,8 +42,3 @@ refusal_of (Err b) = Err b.refusal
 abbrev pub passed : {A P : Type 0} → Result A (HandedBack P) → Result (Unit {0}) Refusal
 passed (Ok x) = Ok tt
 passed (Err b) = Err b.refusal
-
--- the point that a replay came to
-abbrev pub came : {S V : Type 0} → (S → V) → Result (Run S) Refusal → Result (Point V) Refusal
-came value (Ok x) = Ok (point value x)
-came value (Err e) = Err e

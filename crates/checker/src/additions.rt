@@ -1,15 +1,14 @@
-ghost use Rattle.std.specs.Prelude.{◌≡◌, ◌<◌, ◌≤◌, true, List, map, length, drop, slice_set};
-ghost use Rattle.std.specs.Option.{option_map};
+ghost use Rattle.std.specs.Prelude.{◌≡◌, ◌<◌, ◌≤◌, true, List, map, length, drop, slice_set, OnErr};
 ghost use Rattle.worklist.specs.Sets.{Set};
 ghost use Rattle.automaton.specs.Limits.{edge_count, rule_fits};
-ghost use Rattle.checker.specs.Refusals.{reason, told, OnRefusal};
+ghost use Rattle.checker.specs.Refusals.{outcome, told};
 ghost use Rattle.checker.specs.Checks.{refused_or, rule_refusal, edge_refusal};
 ghost use Rattle.checker.specs.Calls.{new_rule, with_rule};
 ghost use Rattle.checker.specs.Did.{Did, rule, edge};
 ghost use Rattle.checker.specs.Views.{table_of, session_of, written};
 
 use crate::passes::Editing;
-use crate::readers::put_readers_if;
+use crate::readers::put_readers;
 use crate::record::Record;
 use crate::refusals::Refusal;
 use automaton::edges::combine_into;
@@ -24,10 +23,11 @@ impl Record {
         ensures is { result.now ≡ (table_of self.now).rules }
         ensures count { length (table_of self.now).rules ≡ self.now.count }
     {
-        &self.rules[0..self.count]
+        &self.rules[..self.count]
     }
 
     // The rule that a call may add, or why it may not.
+    #[tactic(auto, using(crate::proofs::Refusing::lent_tests))]
     fn admit_rule<S: Scale, K: Worklist>(
         &self,
         weights: &[S],
@@ -37,27 +37,22 @@ impl Record {
         target: usize,
         word: &[u8],
     ) -> Result<Rule, Refusal>
-        ensures { (es : List S.Value) (w : Set) → told result ≡ refused_or (rule_refusal (session_of self.now es (map S.value weights.now) w (K.room worklist.now)) control symbol target word.now) (new_rule control symbol target word.now) }
+        ensures { (es : List S.Value) (w : Set) →
+            told result
+            ≡ refused_or
+            (rule_refusal (session_of self.now es (map S.value weights.now) w (K.room worklist.now))
+            control symbol target word.now)
+            (new_rule control symbol target word.now) }
     {
         let sizes = self.sizes;
-        if !self.is_editing() {
-            return Err(Refusal::WrongStage);
-        }
-        if weights.len() < sizes.limit {
-            return Err(Refusal::TooShort);
-        }
-        if worklist.capacity() < sizes.limit {
-            return Err(Refusal::SmallWorklist);
-        }
+        self.check_editing(weights.len() >= sizes.limit, worklist)?;
         if control >= sizes.controls || target >= sizes.controls {
             return Err(Refusal::NoState);
         }
         if symbol as usize >= sizes.symbols || !all_below(sizes.symbols, word) {
             return Err(Refusal::NoSymbol);
         }
-        let Some(word) = Word::of_symbols(word) else {
-            return Err(Refusal::LongWord);
-        };
+        let word = Word::try_from(word)?;
         if self.live_rules().len() >= sizes.limit {
             return Err(Refusal::Full);
         }
@@ -85,7 +80,7 @@ impl Record {
         number
     }
 
-    // Adds a rule with its weight, and has it wait; its number.
+    // Adds a rule with its weight, and has it wait; its number. Its parts are no `Rule` yet, since the word may be too long.
     pub fn rule<S: Scale, K: Worklist>(
         &mut self,
         _pass: &Editing,
@@ -97,49 +92,57 @@ impl Record {
         word: &[u8],
         weight: S,
     ) -> Result<usize, Refusal>
-        ensures did { (es : List S.Value) → Did S.values (session_of self.old es (map S.value weights.old) (K.waiting worklist.old) (K.room worklist.old)) (rule control symbol target word.now (S.value weight) (told result)) (session_of self.new es (map S.value weights.new) (K.waiting worklist.new) (K.room worklist.new)) }
+        ensures did { (es : List S.Value) →
+            Did S.values
+            (session_of self.old es
+            (map S.value weights.old)
+            (K.waiting worklist.old)
+            (K.room worklist.old))
+            (rule control symbol target word.now (S.value weight) (told result))
+            (session_of self.new es
+            (map S.value weights.new)
+            (K.waiting worklist.new)
+            (K.room worklist.new)) }
         ensures weights { weights.new ≡ written result weights.old weight }
-        ensures refused { OnRefusal result ((self.new ≡ self.old) × (worklist.new ≡ worklist.old)) }
+        ensures refused { OnErr result ((self.new ≡ self.old) × (worklist.new ≡ worklist.old)) }
     {
-        let added = match self.admit_rule(weights, worklist, control, symbol, target, word) {
-            Ok(added) => added,
-            Err(refusal) => return Err(refusal),
-        };
+        let added = self.admit_rule(weights, worklist, control, symbol, target, word)?;
         let number = self.append(weights, added, weight);
-        let _ = worklist.put(number);
+        worklist.put(number).unwrap();
         Ok(number)
     }
 
-    // Why an edge is refused, if it is.
-    fn edge_refusal<S: Scale, K: Worklist>(
+    // Whether a weight may be combined into an edge, or why it may not.
+    #[tactic(auto, using(crate::proofs::Refusing::lent_tests))]
+    fn check_edge<S: Scale, K: Worklist>(
         &self,
         edges: &[S],
         worklist: &K,
         from: usize,
         symbol: u8,
         to: usize,
-    ) -> Option<Refusal>
-        ensures { (ws : List S.Value) (w : Set) → option_map reason result ≡ edge_refusal (session_of self.now (map S.value edges.now) ws w (K.room worklist.now)) from symbol to }
+    ) -> Result<(), Refusal>
+        ensures { (ws : List S.Value) (w : Set) →
+            outcome result
+            ≡ edge_refusal (session_of self.now (map S.value edges.now) ws w (K.room worklist.now))
+            from symbol to }
     {
         let sizes = self.sizes;
-        if !self.is_editing() {
-            Some(Refusal::WrongStage)
-        } else if !sizes.fit_edges(edges.len()) {
-            Some(Refusal::TooShort)
-        } else if worklist.capacity() < sizes.limit {
-            Some(Refusal::SmallWorklist)
-        } else if from >= sizes.states || to >= sizes.states {
-            Some(Refusal::NoState)
-        } else if symbol as usize >= sizes.symbols {
-            Some(Refusal::NoSymbol)
-        } else if to < sizes.controls {
-            Some(Refusal::IntoControl)
-        } else {
-            None
+        self.check_editing(sizes.fit_edges(edges.len()), worklist)?;
+        if from >= sizes.states || to >= sizes.states {
+            return Err(Refusal::NoState);
         }
+        if symbol as usize >= sizes.symbols {
+            return Err(Refusal::NoSymbol);
+        }
+        if to < sizes.controls {
+            return Err(Refusal::IntoControl);
+        }
+        Ok(())
     }
 
-    // Combines a weight into an edge; whether that changed it.
+    // Combines a weight into an edge; whether that changed it. An edge goes by its three numbers here and below: a struct would be
+    // made at each call only to be taken apart.
     pub fn edge<S: Scale, K: Worklist>(
         &self,
         _pass: &Editing,
@@ -150,15 +153,19 @@ impl Record {
         to: usize,
         weight: S,
     ) -> Result<bool, Refusal>
-        ensures did { (ws : List S.Value) → Did S.values (session_of self.now (map S.value edges.old) ws (K.waiting worklist.old) (K.room worklist.old)) (edge from symbol to (S.value weight) (told result)) (session_of self.now (map S.value edges.new) ws (K.waiting worklist.new) (K.room worklist.new)) }
-        ensures refused { OnRefusal result ((edges.new ≡ edges.old) × (worklist.new ≡ worklist.old)) }
-        ensures rest { drop (edge_count self.now.sizes) edges.new ≡ drop (edge_count self.now.sizes) edges.old }
+        ensures did { (ws : List S.Value) →
+            Did S.values
+            (session_of self.now (map S.value edges.old) ws (K.waiting worklist.old) (K.room worklist.old))
+            (edge from symbol to (S.value weight) (told result))
+            (session_of self.now (map S.value edges.new) ws (K.waiting worklist.new) (K.room worklist.new)) }
+        ensures refused { OnErr result ((edges.new ≡ edges.old) × (worklist.new ≡ worklist.old)) }
+        ensures rest { drop (edge_count (table_of self.now).sizes) edges.new ≡ drop (edge_count (table_of self.now).sizes) edges.old }
     {
-        if let Some(refusal) = self.edge_refusal(edges, worklist, from, symbol, to) {
-            return Err(refusal);
-        }
+        self.check_edge(edges, worklist, from, symbol, to)?;
         let changed = combine_into(self.sizes, edges, from, symbol, to, weight).unwrap();
-        put_readers_if(changed, self.live_rules(), symbol, worklist);
+        if changed {
+            put_readers(self.live_rules(), symbol, worklist);
+        }
         Ok(changed)
     }
 }

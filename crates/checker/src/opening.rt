@@ -1,7 +1,6 @@
-ghost use Rattle.std.specs.Prelude.{◌≡◌, true, List, map, length, drop};
-ghost use Rattle.std.specs.Option.{option_map};
+ghost use Rattle.std.specs.Prelude.{◌≡◌, true, List, map, length, drop, OnErr};
 ghost use Rattle.automaton.specs.Limits.{sizes_allowed, edge_count};
-ghost use Rattle.checker.specs.Refusals.{reason, outcome, OnRefusal};
+ghost use Rattle.checker.specs.Refusals.{outcome};
 ghost use Rattle.checker.specs.Session.{bare, blank};
 ghost use Rattle.checker.specs.Checks.{left_or, open_refusal};
 ghost use Rattle.checker.specs.Calls.{opened};
@@ -17,18 +16,18 @@ use automaton::sizes::Sizes;
 use scale::Scale;
 use worklist::Worklist;
 
-// Why an open is refused, if it is.
-fn open_refusal<S: Scale, K: Worklist>(sizes: Sizes, edges: &[S], worklist: &K) -> Option<Refusal>
-    ensures { option_map reason result ≡ open_refusal sizes (length edges.now) (K.room worklist.now) }
+// Whether an open may be done, or why it may not.
+fn check_open<S: Scale, K: Worklist>(sizes: Sizes, edges: &[S], worklist: &K) -> Result<(), Refusal>
+    ensures { outcome result ≡ open_refusal sizes (length edges.now) (K.room worklist.now) }
 {
     if !sizes.are_allowed() {
-        Some(Refusal::Sizes)
+        Err(Refusal::Sizes)
     } else if !sizes.fit_edges(edges.len()) {
-        Some(Refusal::TooShort)
+        Err(Refusal::TooShort)
     } else if worklist.capacity() < sizes.limit {
-        Some(Refusal::SmallWorklist)
+        Err(Refusal::SmallWorklist)
     } else {
-        None
+        Ok(())
     }
 }
 
@@ -77,13 +76,20 @@ impl Record {
         worklist: &mut K,
     ) -> Result<Editing, Refusal>
         ensures answer { outcome result ≡ open_refusal sizes (length edges.old) (K.room worklist.old) }
-        ensures after { (ws : List S.Value) → session_of self.new (map S.value edges.new) ws (K.waiting worklist.new) (K.room worklist.new) ≡ left_or (open_refusal sizes (length edges.old) (K.room worklist.old)) (session_of self.old (map S.value edges.old) ws (K.waiting worklist.old) (K.room worklist.old)) (opened S.values sizes (map S.value edges.old) ws (K.room worklist.old)) }
-        ensures refused { OnRefusal result ((self.new ≡ self.old) × (edges.new ≡ edges.old) × (worklist.new ≡ worklist.old)) }
+        ensures after { (ws : List S.Value) →
+            session_of self.new (map S.value edges.new) ws (K.waiting worklist.new) (K.room worklist.new)
+            ≡ left_or
+            (open_refusal sizes (length edges.old) (K.room worklist.old))
+            (session_of self.old
+            (map S.value edges.old) ws
+            (K.waiting worklist.old)
+            (K.room worklist.old))
+            (opened S.values sizes (map S.value edges.old) ws (K.room worklist.old)) }
+        ensures refused { OnErr result
+            ((self.new ≡ self.old) × (edges.new ≡ edges.old) × (worklist.new ≡ worklist.old)) }
         ensures rest { drop (edge_count sizes) edges.new ≡ drop (edge_count sizes) edges.old }
     {
-        if let Some(refusal) = open_refusal(sizes, edges, worklist) {
-            return Err(refusal);
-        }
+        check_open(sizes, edges, worklist)?;
         clear_edges(sizes, edges).unwrap();
         worklist.clear();
         *self = Record::bare(Stage::Editing, sizes);

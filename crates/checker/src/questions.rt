@@ -1,8 +1,7 @@
-ghost use Rattle.std.specs.Prelude.{◌≡◌, ℕ, ◌*◌, ◌<◌, ◌≤◌, true, List, map, length};
-ghost use Rattle.std.specs.Option.{option_map};
+ghost use Rattle.std.specs.Prelude.{◌≡◌, ℕ, ◌*◌, ◌<◌, ◌≤◌, true, List, map, length, OnErr};
 ghost use Rattle.worklist.specs.Sets.{Set};
 ghost use Rattle.automaton.specs.Limits.{edge_count, all_below};
-ghost use Rattle.checker.specs.Refusals.{reason, told, OnRefusal};
+ghost use Rattle.checker.specs.Refusals.{outcome, told};
 ghost use Rattle.checker.specs.Checks.{refused_or, is_open, question_refusal};
 ghost use Rattle.checker.specs.Calls.{asked};
 ghost use Rattle.checker.specs.Did.{Did, question, released_question};
@@ -22,34 +21,35 @@ impl Record {
     pub(crate) fn is_open(&self) -> bool
         ensures { result ≡ is_open self.now.stage }
     {
-        match self.stage {
-            Stage::Blank => false,
-            Stage::Editing | Stage::Released => true,
-        }
+        self.stage != Stage::Blank
     }
 
-    // Why a question is refused, if it is; `staged` says whether the record's stage allows it.
-    fn question_refusal<S: Scale>(
+    // Whether a question may be answered, or why it may not; `staged` says whether the record's stage allows it.
+    #[tactic(auto, using(crate::proofs::Refusing::lent_tests))]
+    fn check_question<S: Scale>(
         &self,
         staged: bool,
         edges: &[S],
         scratch: usize,
         control: usize,
         word: &[u8],
-    ) -> Option<Refusal>
-        ensures { (ws : List S.Value) (w : Set) (m : ℕ) → option_map reason result ≡ question_refusal staged (session_of self.now (map S.value edges.now) ws w m) scratch control word.now }
+    ) -> Result<(), Refusal>
+        ensures { (ws : List S.Value) (w : Set) (m : ℕ) →
+            outcome result
+            ≡ question_refusal staged
+            (session_of self.now (map S.value edges.now) ws w m) scratch control word.now }
     {
         let sizes = self.sizes;
         if !staged {
-            Some(Refusal::WrongStage)
+            Err(Refusal::WrongStage)
         } else if !sizes.fit_edges(edges.len()) || scratch < 2 * sizes.states {
-            Some(Refusal::TooShort)
+            Err(Refusal::TooShort)
         } else if control >= sizes.controls {
-            Some(Refusal::NoState)
+            Err(Refusal::NoState)
         } else if !all_below(sizes.symbols, word) {
-            Some(Refusal::NoSymbol)
+            Err(Refusal::NoSymbol)
         } else {
-            None
+            Ok(())
         }
     }
 
@@ -59,7 +59,9 @@ impl Record {
         requires scratch { 2 * self.now.sizes.states ≤ length scratch.old }
         requires control { control < self.now.sizes.controls }
         requires word { all_below self.now.sizes.symbols word.now ≡ true }
-        ensures { (ws : List S.Value) (w : Set) (m : ℕ) → S.value result ≡ asked S.values (session_of self.now (map S.value edges.now) ws w m) control word.now }
+        ensures { (ws : List S.Value) (w : Set) (m : ℕ) →
+            S.value result
+            ≡ asked S.values (session_of self.now (map S.value edges.now) ws w m) control word.now }
     {
         read_word(self.sizes, edges, &self.finals, scratch, control, word).unwrap()
     }
@@ -73,17 +75,22 @@ impl Record {
         control: usize,
         word: &[u8],
     ) -> Result<S, Refusal>
-        ensures answer { (ws : List S.Value) (w : Set) (m : ℕ) → told (valued S.value result) ≡ refused_or (question_refusal staged (session_of self.now (map S.value edges.now) ws w m) (length scratch.old) control word.now) (asked S.values (session_of self.now (map S.value edges.now) ws w m) control word.now) }
-        ensures refused { OnRefusal result (scratch.new ≡ scratch.old) }
+        ensures answer { (ws : List S.Value) (w : Set) (m : ℕ) →
+            told (valued S.value result)
+            ≡ refused_or
+            (question_refusal staged
+            (session_of self.now (map S.value edges.now) ws w m)
+            (length scratch.old) control word.now)
+            (asked S.values (session_of self.now (map S.value edges.now) ws w m) control word.now) }
+        ensures refused { OnErr result (scratch.new ≡ scratch.old) }
         ensures scratch { length scratch.new ≡ length scratch.old }
     {
-        if let Some(refusal) = self.question_refusal(staged, edges, scratch.len(), control, word) {
-            return Err(refusal);
-        }
+        self.check_question(staged, edges, scratch.len(), control, word)?;
         Ok(self.read(edges, scratch, control, word))
     }
 
-    // The weight of a configuration so far, and whether the session is settled.
+    // The weight of a configuration so far, and whether the session is settled. A configuration goes by its control and its word
+    // here and below: a struct would be made at each call only to be taken apart.
     pub fn question<S: Scale, K: Worklist>(
         &self,
         edges: &[S],
@@ -92,17 +99,17 @@ impl Record {
         control: usize,
         word: &[u8],
     ) -> Result<Answer<S>, Refusal>
-        ensures did { (ws : List S.Value) → Did S.values (session_of self.now (map S.value edges.now) ws (K.waiting worklist.now) (K.room worklist.now)) (question control word.now (length scratch.old) (told (answered S.value result))) (session_of self.now (map S.value edges.now) ws (K.waiting worklist.now) (K.room worklist.now)) }
-        ensures refused { OnRefusal result (scratch.new ≡ scratch.old) }
+        ensures did { (ws : List S.Value) →
+            Did S.values
+            (session_of self.now (map S.value edges.now) ws (K.waiting worklist.now) (K.room worklist.now))
+            (question control word.now (length scratch.old) (told (answered S.value result)))
+            (session_of self.now (map S.value edges.now) ws (K.waiting worklist.now) (K.room worklist.now)) }
+        ensures refused { OnErr result (scratch.new ≡ scratch.old) }
         ensures scratch { length scratch.new ≡ length scratch.old }
     {
-        match self.ask(self.is_open(), edges, scratch, control, word) {
-            Ok(weight) => {
-                let settled = worklist.is_empty();
-                Ok(Answer { weight, settled })
-            }
-            Err(refusal) => Err(refusal),
-        }
+        let weight = self.ask(self.is_open(), edges, scratch, control, word)?;
+        let settled = worklist.is_empty();
+        Ok(Answer { weight, settled })
     }
 
     // The weight of a configuration, after the release.
@@ -114,8 +121,12 @@ impl Record {
         control: usize,
         word: &[u8],
     ) -> Result<S, Refusal>
-        ensures did { (ws : List S.Value) (w : Set) (m : ℕ) → Did S.values (session_of self.now (map S.value edges.now) ws w m) (released_question control word.now (length scratch.old) (told (valued S.value result))) (session_of self.now (map S.value edges.now) ws w m) }
-        ensures refused { OnRefusal result (scratch.new ≡ scratch.old) }
+        ensures did { (ws : List S.Value) (w : Set) (m : ℕ) →
+            Did S.values
+            (session_of self.now (map S.value edges.now) ws w m)
+            (released_question control word.now (length scratch.old) (told (valued S.value result)))
+            (session_of self.now (map S.value edges.now) ws w m) }
+        ensures refused { OnErr result (scratch.new ≡ scratch.old) }
         ensures scratch { length scratch.new ≡ length scratch.old }
     {
         self.ask(self.is_released(), edges, scratch, control, word)

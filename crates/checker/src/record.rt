@@ -7,6 +7,7 @@ use automaton::sizes::Sizes;
 
 // What a session keeps besides the weights and the worklist that its calls are lent. Its rules name only controls and
 // symbols of its sizes, and are no more than its limit.
+// Rows of its own and their count, of which its invariant speaks, and no `Vec`: no call can fail for want of memory.
 #[derive(Drop)]
 pub struct Record {
     pub(crate) stage: Stage,

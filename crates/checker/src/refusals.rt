@@ -1,44 +1,42 @@
 ghost use Rattle.std.specs.Prelude.{◌≡◌};
-ghost use Rattle.checker.specs.Refusals.{reason};
+ghost use Rattle.checker.specs.declared.refusals.Refusal.TheVariants as no;
+ghost use Rattle.checker.specs.Refusals.{reason, stop_reason};
+
+use automaton::rules::LongWord;
+use runs::replay::{BrokenAt, Stop};
+use thiserror::Error;
 
 // Why a call was not done.
-#[derive(Clone, Copy, Debug)]
+#[derive(Clone, Copy, Debug, PartialEq, Eq, Error)]
 pub enum Refusal {
-    // The sizes are not allowed.
+    #[error("the sizes are not allowed")]
     Sizes,
-    // Something that the call is lent is too short.
+    #[error("something that the call is lent is too short")]
     TooShort,
-    // The worklist's capacity is below the limit of rules.
+    #[error("the worklist's capacity is below the limit of rules")]
     SmallWorklist,
-    // The stage is not the one for this call.
+    #[error("the record's stage is not the one for this call")]
     WrongStage,
-    // There is no such control or state.
+    #[error("there is no such control or state")]
     NoState,
-    // There is no such symbol.
+    #[error("there is no such symbol")]
     NoSymbol,
-    // A rule's word has more than two symbols.
+    #[error("the rule's word has more than two symbols")]
     LongWord,
-    // A target edge ends in a control.
+    #[error("the target edge ends in a control")]
     IntoControl,
-    // There are as many rules as may be.
+    #[error("there are as many rules as may be")]
     Full,
-    // A number waits.
+    #[error("a number waits")]
     Waiting,
-    // An entry of a replay names no rule, or one that does not fit what the run has come to.
-    Misfit {
-        place: usize,
-        control: usize,
-        length: usize,
-    },
-    // The rule of an entry fits, but its second symbol has no place.
-    NoRoom {
-        place: usize,
-        control: usize,
-        length: usize,
-    },
+    #[error("no rule fits at {0}")]
+    Misfit(BrokenAt),
+    #[error("a rule's second symbol has no place at {0}")]
+    NoRoom(BrokenAt),
 }
 
 impl Refusal {
+    // Its number in the table of refusals, by which others than callers in Rattle know it.
     pub fn number(self) -> u8
         ensures { result ≡ (reason self).number }
     {
@@ -53,8 +51,28 @@ impl Refusal {
             Refusal::IntoControl => 8,
             Refusal::Full => 9,
             Refusal::Waiting => 10,
-            Refusal::Misfit { .. } => 11,
-            Refusal::NoRoom { .. } => 12,
+            Refusal::Misfit(_) => 11,
+            Refusal::NoRoom(_) => 12,
+        }
+    }
+}
+
+impl From<LongWord> for Refusal {
+    ghost from_gives = { λ _ refusal. refusal ≡ no.LongWord };
+
+    fn from(_word: LongWord) -> Refusal {
+        Refusal::LongWord
+    }
+}
+
+impl From<Stop> for Refusal {
+    ghost from_gives = { λ stop refusal. reason refusal ≡ stop_reason stop };
+
+    fn from(stop: Stop) -> Refusal {
+        match stop {
+            Stop::TooShort => Refusal::TooShort,
+            Stop::Misfit(at) => Refusal::Misfit(at),
+            Stop::NoRoom(at) => Refusal::NoRoom(at),
         }
     }
 }

@@ -1,15 +1,14 @@
-ghost use Rattle.std.specs.Prelude.{◌≡◌, ◌≤◌, true, length, drop, IfSome};
-ghost use Rattle.std.specs.Option.{option_map};
+ghost use Rattle.std.specs.Prelude.{◌≡◌, ◌≤◌, drop, IfSome, OnErr};
 ghost use Rattle.automaton.specs.Limits.{edge_count};
-ghost use Rattle.checker.specs.Refusals.{reason, told, OnRefusal};
-ghost use Rattle.checker.specs.Checks.{settle_refusal};
+ghost use Rattle.checker.specs.Refusals.{outcome, told};
+ghost use Rattle.checker.specs.Checks.{settle_refusal, CanStep};
 ghost use Rattle.checker.specs.Calls.{looked, OneStep, Ran};
 ghost use Rattle.checker.specs.Did.{Did, settle};
-ghost use Rattle.checker.specs.Views.{lent};
+ghost use Rattle.checker.specs.Views.{table_of, lent};
 
 use crate::answers::Report;
 use crate::passes::Editing;
-use crate::readers::put_readers_if;
+use crate::readers::put_readers;
 use crate::record::Record;
 use crate::refusals::Refusal;
 use automaton::saturation::saturate;
@@ -17,28 +16,26 @@ use scale::Scale;
 use worklist::Worklist;
 
 impl Record {
-    // Why a settle is refused, if it is.
-    fn settle_refusal<S: Scale, K: Worklist>(
+    // Whether a settle may be done, or why it may not.
+    #[tactic(auto, using(crate::proofs::Refusing::lent_tests))]
+    fn check_settle<S: Scale, K: Worklist>(
         &self,
         edges: &[S],
         weights: &[S],
         worklist: &K,
-    ) -> Option<Refusal>
-        ensures { option_map reason result ≡ settle_refusal (lent S.value K.waiting K.room self.now edges.now weights.now worklist.now) }
+    ) -> Result<(), Refusal>
+        ensures { outcome result
+            ≡ settle_refusal (lent S.value K.waiting K.room self.now edges.now weights.now worklist.now) }
     {
         let sizes = self.sizes;
-        if !self.is_editing() {
-            Some(Refusal::WrongStage)
-        } else if !sizes.fit_edges(edges.len()) || weights.len() < sizes.limit {
-            Some(Refusal::TooShort)
-        } else if worklist.capacity() < sizes.limit {
-            Some(Refusal::SmallWorklist)
-        } else {
-            None
-        }
+        self.check_editing(
+            sizes.fit_edges(edges.len()) && weights.len() >= sizes.limit,
+            worklist,
+        )
     }
 
-    // Makes the step of the rule of that number, if there is one; how many edges changed.
+    // Makes the step of the rule of that number, if there is one; how many edges changed. It and its two callers take what the
+    // settle is lent one by one: each method of a struct of them would have to say that its four parts stay.
     fn look<S: Scale, K: Worklist>(
         &self,
         number: usize,
@@ -46,21 +43,22 @@ impl Record {
         weights: &[S],
         worklist: &mut K,
     ) -> u64
-        requires edges { edge_count self.now.sizes ≤ length edges.old }
-        requires weights { self.now.sizes.limit ≤ length weights.now }
-        requires worklist { self.now.sizes.limit ≤ K.room worklist.old }
-        ensures after { lent S.value K.waiting K.room self.now edges.new weights.now worklist.new ≡ (looked S.values (lent S.value K.waiting K.room self.now edges.old weights.now worklist.old) number).0 }
-        ensures raises { result ≡ (looked S.values (lent S.value K.waiting K.room self.now edges.old weights.now worklist.old) number).1 }
+        requires { CanStep (lent S.value K.waiting K.room self.now edges.old weights.now worklist.old) }
+        ensures after { lent S.value K.waiting K.room self.now edges.new weights.now worklist.new
+            ≡ (looked S.values (lent S.value K.waiting K.room self.now edges.old weights.now worklist.old) number).0 }
+        ensures raises { result
+            ≡ (looked S.values (lent S.value K.waiting K.room self.now edges.old weights.now worklist.old) number).1 }
         ensures few { result ≤ 64 }
         ensures kept { K.room worklist.new ≡ K.room worklist.old }
         ensures rest { drop (edge_count self.now.sizes) edges.new ≡ drop (edge_count self.now.sizes) edges.old }
     {
-        if number >= self.count {
+        let Some(&rule) = self.live_rules().get(number) else {
             return 0;
-        }
-        let rule = self.rules[number];
+        };
         let raises = saturate(self.sizes, edges, rule, weights[number]).unwrap();
-        put_readers_if(raises > 0, self.live_rules(), rule.symbol, worklist);
+        if raises > 0 {
+            put_readers(self.live_rules(), rule.symbol, worklist);
+        }
         raises
     }
 
@@ -71,21 +69,20 @@ impl Record {
         weights: &[S],
         worklist: &mut K,
     ) -> Option<u64>
-        requires edges { edge_count self.now.sizes ≤ length edges.old }
-        requires weights { self.now.sizes.limit ≤ length weights.now }
-        requires worklist { self.now.sizes.limit ≤ K.room worklist.old }
-        ensures made { OneStep S.values (lent S.value K.waiting K.room self.now edges.old weights.now worklist.old) result (lent S.value K.waiting K.room self.now edges.new weights.now worklist.new) }
+        requires { CanStep (lent S.value K.waiting K.room self.now edges.old weights.now worklist.old) }
+        ensures made { OneStep S.values
+            (lent S.value K.waiting K.room self.now edges.old weights.now worklist.old) result
+            (lent S.value K.waiting K.room self.now edges.new weights.now worklist.new) }
         ensures few { IfSome result (λ k. k ≤ 64) }
         ensures kept { K.room worklist.new ≡ K.room worklist.old }
         ensures rest { drop (edge_count self.now.sizes) edges.new ≡ drop (edge_count self.now.sizes) edges.old }
     {
-        match worklist.take() {
-            Some(number) => Some(self.look(number, edges, weights, worklist)),
-            None => None,
-        }
+        let number = worklist.take()?;
+        Some(self.look(number, edges, weights, worklist))
     }
 
     // Makes steps to the end of the worklist or of the budget.
+    #[tactic(auto, using(crate::proofs::Stepping::made_none, crate::proofs::Stepping::made_more))]
     fn run<S: Scale, K: Worklist>(
         &self,
         edges: &mut [S],
@@ -93,10 +90,10 @@ impl Record {
         worklist: &mut K,
         budget: u32,
     ) -> Report
-        requires edges { edge_count self.now.sizes ≤ length edges.old }
-        requires weights { self.now.sizes.limit ≤ length weights.now }
-        requires worklist { self.now.sizes.limit ≤ K.room worklist.old }
-        ensures ran { Ran S.values (lent S.value K.waiting K.room self.now edges.old weights.now worklist.old) budget result (lent S.value K.waiting K.room self.now edges.new weights.now worklist.new) }
+        requires { CanStep (lent S.value K.waiting K.room self.now edges.old weights.now worklist.old) }
+        ensures ran { Ran S.values
+            (lent S.value K.waiting K.room self.now edges.old weights.now worklist.old) budget result
+            (lent S.value K.waiting K.room self.now edges.new weights.now worklist.new) }
         ensures rest { drop (edge_count self.now.sizes) edges.new ≡ drop (edge_count self.now.sizes) edges.old }
     {
         let mut raises = 0;
@@ -127,13 +124,15 @@ impl Record {
         worklist: &mut K,
         budget: u32,
     ) -> Result<Report, Refusal>
-        ensures did { Did S.values (lent S.value K.waiting K.room self.old edges.old weights.now worklist.old) (settle budget (told result)) (lent S.value K.waiting K.room self.new edges.new weights.now worklist.new) }
-        ensures refused { OnRefusal result ((self.new ≡ self.old) × (edges.new ≡ edges.old) × (worklist.new ≡ worklist.old)) }
-        ensures rest { drop (edge_count self.old.sizes) edges.new ≡ drop (edge_count self.old.sizes) edges.old }
+        ensures did { Did S.values
+            (lent S.value K.waiting K.room self.old edges.old weights.now worklist.old)
+            (settle budget (told result))
+            (lent S.value K.waiting K.room self.new edges.new weights.now worklist.new) }
+        ensures refused { OnErr result
+            ((self.new ≡ self.old) × (edges.new ≡ edges.old) × (worklist.new ≡ worklist.old)) }
+        ensures rest { drop (edge_count (table_of self.old).sizes) edges.new ≡ drop (edge_count (table_of self.old).sizes) edges.old }
     {
-        if let Some(refusal) = self.settle_refusal(edges, weights, worklist) {
-            return Err(refusal);
-        }
+        self.check_settle(edges, weights, worklist)?;
         let report = self.run(edges, weights, worklist, budget);
         self.total = self.total.saturating_add(report.raises);
         Ok(report)

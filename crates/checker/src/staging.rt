@@ -1,5 +1,5 @@
-ghost use Rattle.std.specs.Prelude.{◌≡◌};
-ghost use Rattle.checker.specs.Refusals.{told, OnRefusal};
+ghost use Rattle.std.specs.Prelude.{◌≡◌, OnErr};
+ghost use Rattle.checker.specs.Refusals.{told};
 ghost use Rattle.checker.specs.Checks.{is_released};
 ghost use Rattle.checker.specs.Did.{ReleasedTo, WithdrawnTo, Tallied};
 ghost use Rattle.checker.specs.Views.{table_of, passed, refusal_of};
@@ -14,10 +14,7 @@ impl Record {
     pub(crate) fn is_released(&self) -> bool
         ensures { result ≡ is_released self.now.stage }
     {
-        match self.stage {
-            Stage::Released => true,
-            Stage::Blank | Stage::Editing => false,
-        }
+        self.stage == Stage::Released
     }
 
     // Ends the editing, where no number waits.
@@ -26,8 +23,12 @@ impl Record {
         pass: Editing,
         worklist: &K,
     ) -> Result<Released, HandedBack<Editing>>
-        ensures did { ReleasedTo (table_of self.old) (K.waiting worklist.now) (told (passed result)) (table_of self.new) }
-        ensures refused { OnRefusal (passed result) (self.new ≡ self.old) }
+        ensures did { ReleasedTo
+            (table_of self.old)
+            (K.waiting worklist.now)
+            (told (passed result))
+            (table_of self.new) }
+        ensures refused { OnErr (passed result) (self.new ≡ self.old) }
     {
         let idle = worklist.is_empty();
         if !self.is_editing() {
@@ -49,7 +50,7 @@ impl Record {
     // Goes back to editing.
     pub fn withdraw(&mut self, pass: Released) -> Result<Editing, HandedBack<Released>>
         ensures did { WithdrawnTo (table_of self.old) (told (passed result)) (table_of self.new) }
-        ensures refused { OnRefusal (passed result) (self.new ≡ self.old) }
+        ensures refused { OnErr (passed result) (self.new ≡ self.old) }
     {
         if !self.is_released() {
             return Err(HandedBack {
@@ -64,7 +65,7 @@ impl Record {
     // Ends the session: the total of its raises, and the record is blank.
     pub fn tally(&mut self, pass: Released) -> Result<u64, HandedBack<Released>>
         ensures did { Tallied (table_of self.old) (told (refusal_of result)) (table_of self.new) }
-        ensures refused { OnRefusal (refusal_of result) (self.new ≡ self.old) }
+        ensures refused { OnErr (refusal_of result) (self.new ≡ self.old) }
     {
         if !self.is_released() {
             return Err(HandedBack {

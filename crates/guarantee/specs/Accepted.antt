@@ -1,5 +1,5 @@
 -- What the accepted calls of a list said and reported.
-use Rattle.std.specs.Prelude.{ℕ, ◌+◌, Bool, true, false, cond, not, ◌&&◌, ◌||◌, List, [], ◌∷◌, ◌++◌, is_ok, Some, None, Ok, Err, Option, ◌==◌}
+use Rattle.std.specs.Prelude.{ℕ, ◌+◌, Bool, true, false, if◌then◌else◌, not, ◌&&◌, ◌||◌, List, [], ◌∷◌, ◌++◌, is_ok, Some, None, Ok, Err, Option, ◌==◌}
 use Rattle.scale.specs.Semiring.{Semiring}
 use Rattle.automaton.specs.declared.rules.Rule.{Rule}
 use Rattle.automaton.specs.Automaton.{Edges}
@@ -129,7 +129,7 @@ module _ {V : Type 0} (s : Semiring V) where
   given [] q g q2 = s.none
   given (rule p a p2 w f r ∷ es) q g q2 = given es q g q2
   given (edge from a to f r ∷ es) q g q2 =
-      s.combine (cond (is_ok r && (from == q && (a == g && to == q2))) f s.none) (given es q g q2)
+      s.combine (if is_ok r && (from == q && (a == g && to == q2)) then f else s.none) (given es q g q2)
   given (final n r ∷ es) q g q2 = given es q g q2
   given (settle n r ∷ es) q g q2 = given es q g q2
   given (question p w n r ∷ es) q g q2 = given es q g q2

@@ -1,5 +1,3 @@
-mod Fits
-mod Entries
 mod Words
 mod Steps
 mod Replayed

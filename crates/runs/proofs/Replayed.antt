@@ -1,6 +1,6 @@
 -- A replay is a run whose words stay within the buffer.
-use Rattle.std.proofs.Common.{◌≡◌, ℕ, ◌+◌, ◌≤◌, leb, List, [], ◌∷◌, length, get_or, Some, None, Ok, Err, Option, Result, sym, refl, ap, ◌∙◌, arith, MatchResult}
-use Rattle.std.proofs.lemmas.Bool.{false≢true}
+use Rattle.std.proofs.Common.{◌≡◌, ℕ, ◌+◌, ◌≤◌, Bool, true, false, nat_le, List, [], ◌∷◌, length, slice_index_or, Some, None, Ok, Err, Option, Result, sym, refl, ap, ◌∙◌, MatchResult}
+use Rattle.std.specs.Bool.{OnTrue}
 use Rattle.scale.specs.Semiring.{Semiring, Extends}
 use Rattle.automaton.specs.declared.rules.Rule.{Rule}
 use Rattle.automaton.specs.Pushdown.{Config, at, then, applied, ends, run_weight}
@@ -12,11 +12,8 @@ use Rattle.runs.specs.Points.{start}
 use Rattle.runs.proofs.Words.{config}
 use Rattle.runs.proofs.Steps.{Agrees, entry_steps}
 
-none_some : {A : Type 0} (x : A) → None ≡ Some x → ⊥
-none_some x e = let z : ◌≡◌ {A = ℕ} 0 1 = cc in omega arith
-
 then_some : {A B : Type 0} (o : Option A) (f : A → Option B) (y : B) → then o f ≡ Some y → (x : A) × (o ≡ Some x) × (f x ≡ Some y)
-then_some None f y e = absurd (none_some y e)
+then_some None f y e = cc
 then_some (Some x) f y e = (x, refl, e)
 
 -- a run within some room is a run
@@ -26,11 +23,8 @@ ends_of_within rules room (n ∷ ns) c end e =
     let step = then_some (step_within rules room n c) (ends_within rules room ns) end e in
     let found = then_some (at rules n) _ step.0 step.1 in
     let yielded = then_some (applied found.0 c.control c.word) _ step.0 found.2 in
-    let same = (given_some (leb (length yielded.0.word) room) yielded.0 step.0 (sym yielded.2)).1 in
-    ap (λ (o : Option Rule). then o (λ r. then (applied r c.control c.word) (ends rules ns))) found.1
-    ∙ ap (λ (o : Option Config). then o (ends rules ns)) yielded.1
-    ∙ ap (ends rules ns) (sym same)
-    ∙ ends_of_within rules room ns step.0 end step.2
+    let same = (given_some (nat_le (length yielded.0.word) room) yielded.0 step.0 (sym yielded.2)).1 in
+    rw (found.1, yielded.1, ← same) (ends_of_within rules room ns step.0 end step.2)
 
 module _ {V : Type 0} (s : Semiring V) (laws : Extends s) (rules : List Rule) (weights : List V) where
   -- where a replay from x came to and where the run within the room ends are the same
@@ -44,10 +38,10 @@ module _ {V : Type 0} (s : Semiring V) (laws : Extends s) (rules : List Rule) (w
   Reached ns x b r o = (length r.1 ≡ length b) × Came ns x r.0 r.1 o
 
   came_more : (k : ℕ) (ks : List ℕ) (x y : Point V) (r : Result (Point V) Stop) (after : List ℕ) (o o2 : Option Config)
-      → o ≡ o2 → y.weight ≡ s.extend x.weight (get_or weights k s.none) → Came ks y r after o2 → Came (k ∷ ks) x r after o
+      → o ≡ o2 → y.weight ≡ s.extend x.weight (slice_index_or weights k s.none) → Came ks y r after o2 → Came (k ∷ ks) x r after o
   came_more k ks x y (Ok z) after o o2 same weight came = (
-    same ∙ came.0,
-    came.1 ∙ ap (λ v. s.extend v (run_weight s weights ks)) weight ∙ laws.assoc x.weight (get_or weights k s.none) (run_weight s weights ks),
+    cc,
+    cc (laws.assoc x.weight (slice_index_or weights k s.none) (run_weight s weights ks)),
   )
   came_more k ks x y (Err e) after o o2 same weight came = same ∙ came
 
@@ -59,11 +53,11 @@ module _ {V : Type 0} (s : Semiring V) (laws : Extends s) (rules : List Rule) (w
       → Agrees s rules weights place k x b e o
       → ((y : Point V) (b2 : List ℕ) → y.length ≤ length b2 → Reached ks y b2 (replayed s rules weights (place + 1) ks y b2) (ends_within rules (length b2) ks (config y.control (word_in b2 y.length))))
       → Reached (k ∷ ks) x b (goes_on place ks b e) (then o (ends_within rules (length b) ks))
-  one_more place k ks x b (Err e) o agrees after = (refl, ap (λ (p : Option Config). then p (ends_within rules (length b) ks)) agrees)
+  one_more place k ks x b (Err e) o agrees after = (refl, rw agrees refl)
   one_more place k ks x b (Ok y) o agrees after =
       let ih = after y.0 y.1 agrees.2 in
       let c = config y.0.control (word_in y.1 y.0.length) in
-      let onward = ap (λ (p : Option Config). then p (ends_within rules (length b) ks)) agrees.0 ∙ ap (λ m. ends_within rules m ks c) (sym agrees.1) in
+      let onward : then o (ends_within rules (length b) ks) ≡ ends_within rules (length y.1) ks c = rw (agrees.0, agrees.1) refl in
       (ih.0 ∙ agrees.1, came_more k ks x y.0 (replayed s rules weights (place + 1) ks y.0 y.1).0 _ _ _ onward agrees.3 ih.1)
 
   reaches : (place : ℕ) (ns : List ℕ) (x : Point V) (b : List ℕ) → x.length ≤ length b
@@ -84,13 +78,14 @@ module _ {V : Type 0} (s : Semiring V) (laws : Extends s) (rules : List Rule) (w
         length_kept = long;
       }
   told ns p n b (Err e) after long came = record {
-    accepted = (λ h. absurd (false≢true h), λ found. absurd (none_some found.0 (sym came ∙ found.1)));
+    accepted = (λ h. cc, λ found. let clash : None ≡ Some found.0 = sym came ∙ found.1 in cc);
     run = tt;
     length_kept = long;
   }
 
-  pub replays : (ns : List ℕ) (p n : ℕ) (b : List ℕ) → n ≤ length b
-      → Replays s rules weights ns p n b (replayed s rules weights 0 ns (start s p n) b).0 (replayed s rules weights 0 ns (start s p n) b).1
-  replays ns p n b room =
+  pub replays : (ns : List ℕ) (p n : ℕ) (b : List ℕ) (can : Bool) (r : Result (Point V) Stop) (after : List ℕ) → n ≤ length b
+      → (r, after) ≡ replayed s rules weights 0 ns (start s p n) b → OnTrue can (Replays s rules weights ns p n b r after)
+  replays ns p n b false r after room is = tt
+  replays ns p n b true r after room is =
       let all = reaches 0 ns (start s p n) b room in
-      told ns p n b (replayed s rules weights 0 ns (start s p n) b).0 (replayed s rules weights 0 ns (start s p n) b).1 all.0 all.1
+      rw (ap (λ q. q.0) is, ap (λ q. q.1) is) (told ns p n b _ _ all.0 all.1)

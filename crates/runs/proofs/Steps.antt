@@ -1,21 +1,18 @@
 -- An entry of a replay is a step of the run.
-use Rattle.std.proofs.Common.{◌≡◌, ℕ, ◌+◌, ◌-◌, ◌<◌, ◌≤◌, Bool, true, false, cond, ltb, leb, List, ◌++◌, length, get_or, set, Some, None, Ok, Err, Option, Result, sym, refl, ap, ◌∙◌, subst, arith}
+use Rattle.std.proofs.Common.{◌≡◌, ℕ, ◌+◌, ◌-◌, ◌<◌, ◌≤◌, Bool, true, false, nat_lt, nat_le, List, ◌++◌, length, slice_index_or, slice_set, Some, None, Ok, Err, Option, Result, refl, ◌∙◌, arith}
+use Rattle.std.specs.Bool.{then_some}
 use Rattle.std.proofs.lemmas.List.{length-set}
-use Rattle.std.proofs.lemmas.Bool.{and_parts, ltb-true, ltb-false, le-leb, lt-leb}
+use Rattle.std.proofs.lemmas.Bool.{ltb-true}
+use Rattle.std.proofs.lemmas.Bool.Decides.{nat_tests}
 use Rattle.scale.specs.Semiring.{Semiring}
 use Rattle.automaton.specs.declared.rules.Rule.{Rule}
 use Rattle.automaton.specs.declared.rules.Word.{Word}
 use Rattle.automaton.specs.declared.rules.Word.TheVariants.{Pop, Swap, Push}
-use Rattle.automaton.specs.Layout.{only_if}
 use Rattle.automaton.specs.Pushdown.{Config, symbols, at, then, applied}
 use Rattle.runs.specs.declared.replay.Stop.{Stop}
 use Rattle.runs.specs.Bounded.{step_within}
 use Rattle.runs.specs.Stacks.{Point, word_in, fits_stack, replaced, left_by, entered_by, entered}
 use Rattle.runs.proofs.Words.{config, word_set, word_push, length_word, applied_stack}
-
--- what is given where a test holds
-pub kept_if : {A : Type 0} (b : Bool) (x y : A) → b ≡ true → x ≡ y → only_if b x ≡ Some y
-kept_if b x y holds same = ap (λ (t : Bool). only_if t x) holds ∙ ap Some same
 
 module _ {V : Type 0} (s : Semiring V) (rules : List Rule) (weights : List V) (place k : ℕ) (x : Point V) (b : List ℕ) where
   -- an entry and a step come to the same: the same configuration with the weight extended, or nothing
@@ -24,7 +21,7 @@ module _ {V : Type 0} (s : Semiring V) (rules : List Rule) (weights : List V) (p
       (o ≡ Some (config y.0.control (word_in y.1 y.0.length)))
       × (length y.1 ≡ length b)
       × (y.0.length ≤ length y.1)
-      × (y.0.weight ≡ s.extend x.weight (get_or weights k s.none))
+      × (y.0.weight ≡ s.extend x.weight (slice_index_or weights k s.none))
   Agrees (Err e) o = o ≡ None
 
   module _ (room : x.length ≤ length b) (r : Rule) (some : 0 < x.length) where
@@ -32,69 +29,47 @@ module _ {V : Type 0} (s : Semiring V) (rules : List Rule) (weights : List V) (p
     rest = word_in b (x.length - 1)
 
     abbrev yields : Word → Option Config
-    yields w = only_if (leb (length (symbols w ++ rest)) (length b)) (config r.target (symbols w ++ rest))
-
-    abbrev after : Word → ℕ × List ℕ → Type 0
-    after w y = (yields w ≡ Some (config r.target (word_in y.1 y.0))) × (length y.1 ≡ length b) × (y.0 ≤ length y.1)
+    yields w = then_some (nat_le (length (symbols w ++ rest)) (length b)) (config r.target (symbols w ++ rest))
 
     rest_length : length rest ≡ x.length - 1
     rest_length = length_word b (x.length - 1) (omega arith)
 
-    popped : after Pop (x.length - 1, b)
-    popped = (kept_if _ _ _ (le-leb _ _ (omega (arith, rest_length))) refl, refl, omega arith)
-
-    swapped : (a : ℕ) → after (Swap a) (x.length, set b (x.length - 1) a)
-    swapped a =
-        let back : x.length ≡ (x.length - 1) + 1 = omega arith in
-        let long = length-set b (x.length - 1) a in (
-          kept_if _ _ _ (le-leb _ _ (omega (arith, rest_length)))
-              (ap (config r.target) (sym (word_set b (x.length - 1) a (omega arith)) ∙ ap (word_in (set b (x.length - 1) a)) (sym back))),
-          long,
-          omega (arith, long),
-        )
-
-    pushed : (a c : ℕ) → x.length < length b → after (Push a c) (x.length + 1, set (set b (x.length - 1) c) x.length a)
-    pushed a c h =
-        let m = x.length - 1 in
-        let back : m + 1 ≡ x.length = omega arith in
-        let long = length-set (set b m c) x.length a ∙ length-set b m c in (
-          kept_if _ _ _ (le-leb _ _ (omega (arith, rest_length)))
-              (ap (config r.target) (sym (word_push b m a c (omega arith)) ∙ ap (λ i. word_in (set (set b m c) i a) (i + 1)) back)),
-          long,
-          omega (arith, long),
-        )
+    back : (x.length - 1) + 1 ≡ x.length
+    back = omega arith
 
     -- a rule that fits, by its word
     by_word : (w : Word) → Agrees (left_by s rules weights place k x r (replaced w b x.length)) (yields w)
-    by_word Pop = let f = popped in (f.0, f.1, f.2, refl)
-    by_word (Swap a) = let f = swapped a in (f.0, f.1, f.2, refl)
-    by_word (Push a c) = by_room (ltb x.length (length b)) refl
+    by_word Pop = (grind (arith, nat_tests, rest_length), refl, omega arith, refl)
+    by_word (Swap a) =
+        let word = word_set b (x.length - 1) a (omega arith) in
+        let long = length-set b (x.length - 1) a in
+        (grind (arith, nat_tests, rest_length, back, word), long, omega (arith, long), refl)
+    by_word (Push a c) = by_room (nat_lt x.length (length b)) refl
       where
         made : ℕ × List ℕ
-        made = (x.length + 1, set (set b (x.length - 1) c) x.length a)
+        made = (x.length + 1, slice_set (slice_set b (x.length - 1) c) x.length a)
 
-        by_room : (t : Bool) → ltb x.length (length b) ≡ t → Agrees (left_by s rules weights place k x r (only_if t made)) (yields (Push a c))
-        by_room true fits = let f = pushed a c (ltb-true _ _ fits) in (f.0, f.1, f.2, refl)
-        by_room false full =
-            let many = ltb-false _ _ full in
-            ap (λ (t : Bool). only_if t (config r.target (symbols (Push a c) ++ rest))) (lt-leb _ _ (omega (arith, rest_length)))
+        by_room : (t : Bool) → nat_lt x.length (length b) ≡ t → Agrees (left_by s rules weights place k x r (then_some t made)) (yields (Push a c))
+        by_room true fits =
+            let below = ltb-true _ _ fits in
+            let word = word_push b (x.length - 1) a c (omega arith) in
+            let long = length-set (slice_set b (x.length - 1) c) x.length a ∙ length-set b (x.length - 1) c in
+            (grind (arith, nat_tests, rest_length, back, word), long, omega (arith, long), refl)
+        by_room false full = grind (arith, nat_tests, rest_length)
 
   -- a rule, whether it fits or not
   by_fit : (room : x.length ≤ length b) (r : Rule) (t : Bool) → (t ≡ true → 0 < x.length)
-      → Agrees (entered_by s rules weights place k x b (only_if t r))
-      (then (cond t (Some (config r.target (symbols r.word ++ word_in b (x.length - 1)))) None) (λ d. only_if (leb (length d.word) (length b)) d))
+      → Agrees (entered_by s rules weights place k x b (then_some t r))
+      (then (then_some t (config r.target (symbols r.word ++ word_in b (x.length - 1)))) (λ d. then_some (nat_le (length d.word) (length b)) d))
   by_fit room r true some = by_word room r (some refl) r.word
   by_fit room r false some = refl
 
   by_rule : (room : x.length ≤ length b) (o : Option Rule)
-      → Agrees (entered_by s rules weights place k x b (then o (λ r. only_if (fits_stack r x.control b x.length) r)))
-      (then o (λ r. then (applied r x.control (word_in b x.length)) (λ d. only_if (leb (length d.word) (length b)) d)))
+      → Agrees (entered_by s rules weights place k x b (then o (λ r. then_some (fits_stack r x.control b x.length) r)))
+      (then o (λ r. then (applied r x.control (word_in b x.length)) (λ d. then_some (nat_le (length d.word) (length b)) d)))
   by_rule room None = refl
   by_rule room (Some r) =
-      let t = fits_stack r x.control b x.length in
-      let high : t ≡ true → 0 < x.length = λ h. ltb-true 0 x.length (and_parts (ltb 0 x.length) _ h).0 in
-      subst (λ (o : Option Config). Agrees (entered_by s rules weights place k x b (only_if t r)) (then o (λ d. only_if (leb (length d.word) (length b)) d)))
-      (sym (applied_stack r x.control b x.length room)) (by_fit room r t high)
+      rw (applied_stack r x.control b x.length room) (by_fit room r (fits_stack r x.control b x.length) (λ h. grind (arith, nat_tests)))
 
   pub entry_steps : x.length ≤ length b → Agrees (entered s rules weights place k x b) (step_within rules (length b) k (config x.control (word_in b x.length)))
   entry_steps room = by_rule room (at rules k)

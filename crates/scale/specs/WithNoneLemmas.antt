@@ -1,5 +1,5 @@
 -- The laws of values and none, from those of the values.
-use Rattle.std.specs.Prelude.{◌≡◌, ◌<◌, ◌≤◌, Decides, ◌≢◌, refl}
+use Rattle.std.specs.Prelude.{◌≡◌, ◌<◌, ◌≤◌, ◌↔◌, IsTrue, ◌≢◌, refl}
 use Rattle.std.proofs.Common.{arith}
 use Rattle.scale.specs.Semiring.{Combines, Extends, Distributes, Bounded, Tells}
 use Rattle.scale.specs.WithNone.{Values, with_none}
@@ -16,7 +16,7 @@ pub record Lawful {V : Type 0} (v : Values V) : Type 0 where
   pub above_none : (a : V) → 0 < v.rank a
   pub within : (a : V) → v.rank a ≤ v.height
   pub rises : (a b : V) → v.combine a b ≡ b → (a ≢ b) → v.rank a < v.rank b
-  pub tells : (a b : V) → Decides (v.same a b) (a ≡ b)
+  pub tells : (a b : V) → IsTrue (v.same a b) ↔ (a ≡ b)
 
 module _ {V : Type 0} {v : Values V} (laws : Lawful v) where
   pub combines : Combines (with_none v)

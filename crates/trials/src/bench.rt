@@ -4,6 +4,7 @@ use checker::passes::Editing;
 use checker::record::Record;
 use checker::refusals::Refusal;
 use scale::Scale;
+use scale::flags::Flags;
 use scale::minutes::Minutes;
 use worklist::Worklist;
 use worklist::mark_table::MarkTable;
@@ -14,6 +15,21 @@ pub const SIZES: Sizes = Sizes {
     symbols: 3,
     limit: 8,
 };
+
+// So many minutes, as a weight.
+pub fn minutes(count: u32) -> Option<Minutes> {
+    Some(Minutes::new(count))
+}
+
+// The flags that are kept and those that are set, as a weight.
+pub fn flags(keep: u32, set: u32) -> Option<Flags> {
+    Some(Flags::new(keep, set))
+}
+
+// The number of the refusal, or 0.
+pub fn number<T: Drop>(answer: Result<T, Refusal>) -> u8 {
+    answer.err().map_or(0, |refusal| refusal.number())
+}
 
 // A session of two controls, three states, three symbols and at most eight rules, with what its calls are lent.
 #[derive(Drop)]
@@ -108,13 +124,8 @@ impl<S: Scale, K: Worklist + Drop> Bench<S, K> {
 }
 
 // The worked table with its minutes, over the mark table.
-pub fn worked() -> Result<Bench<Minutes, MarkTable>, Refusal> {
+pub fn worked() -> Result<Bench<Option<Minutes>, MarkTable>, Refusal> {
     let mut b = Bench::open(MarkTable::new())?;
-    b.add_worked([
-        Minutes::new(5),
-        Minutes::new(2),
-        Minutes::new(3),
-        Minutes::new(1),
-    ])?;
+    b.add_worked([minutes(5), minutes(2), minutes(3), minutes(1)])?;
     Ok(b)
 }

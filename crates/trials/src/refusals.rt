@@ -1,28 +1,21 @@
-use crate::bench::{Bench, SIZES};
+use crate::bench::{Bench, SIZES, minutes, number};
 use crate::single::Single;
 use checker::record::Record;
 use checker::refusals::Refusal;
-use scale::Scale;
+use runs::replay::BrokenAt;
 use scale::minutes::Minutes;
+use scale::presemiring::Presemiring;
 use std::test::Fail;
 use worklist::mark_table::MarkTable;
 
-// The number of the refusal, or 0.
-fn number<T: Drop>(answer: Result<T, Refusal>) -> u8 {
-    match answer {
-        Ok(_) => 0,
-        Err(refusal) => refusal.number(),
-    }
-}
-
-fn bench() -> Result<Bench<Minutes, MarkTable>, Refusal> {
+fn bench() -> Result<Bench<Option<Minutes>, MarkTable>, Refusal> {
     Bench::open(MarkTable::new())
 }
 
 #[test]
 fn rules(rt: HostRuntime) -> Result<(), Fail> {
     let mut b = bench()?;
-    let f = Minutes::new(1);
+    let f = minutes(1);
     let long: [u8; 3] = [0, 1, 2];
     let bad: [u8; 3] = [0, 1, 3];
     let cases: [(usize, u8, usize, &[u8], u8); 9] = [
@@ -49,10 +42,10 @@ fn rules(rt: HostRuntime) -> Result<(), Fail> {
 fn the_ninth_rule(rt: HostRuntime) -> Result<(), Fail> {
     let mut b = bench()?;
     for n in 0..8 {
-        assert_eq!(rt; b.rule((0, 0), 0, &[], Minutes::new(1))?, n);
+        assert_eq!(rt; b.rule((0, 0), 0, &[], minutes(1))?, n);
     }
-    assert_eq!(rt; number(b.rule((0, 0), 0, &[], Minutes::new(1))), 9);
-    assert_eq!(rt; number(b.rule((0, 0), 0, &[0, 1, 2], Minutes::new(1))), 7);
+    assert_eq!(rt; number(b.rule((0, 0), 0, &[], minutes(1))), 9);
+    assert_eq!(rt; number(b.rule((0, 0), 0, &[0, 1, 2], minutes(1))), 7);
     Ok(())
 }
 
@@ -69,9 +62,12 @@ fn edges(rt: HostRuntime) -> Result<(), Fail> {
         (2, 2, 2, 0),
     ];
     for (from, symbol, to, expected) in cases {
-        assert_eq!(rt; number(b.edge(from, symbol, to, Minutes::one())), expected);
+        assert_eq!(rt;
+            number(b.edge(from, symbol, to, Some(Minutes::one()))),
+            expected
+        );
     }
-    assert_eq!(rt; b.edge(2, 2, 2, Minutes::one())?, false);
+    assert_eq!(rt; b.edge(2, 2, 2, Some(Minutes::one()))?, false);
     Ok(())
 }
 
@@ -90,7 +86,7 @@ fn finals_and_questions(rt: HostRuntime) -> Result<(), Fail> {
 
 #[test]
 fn too_short(rt: HostRuntime) -> Result<(), Fail> {
-    let f = Minutes::new(1);
+    let f = minutes(1);
     let mut all = [f; 27];
     let mut edges = [f; 26];
     let mut limit = [f; 8];
@@ -132,7 +128,7 @@ fn too_short(rt: HostRuntime) -> Result<(), Fail> {
 
 #[test]
 fn small_worklists(rt: HostRuntime) -> Result<(), Fail> {
-    let f = Minutes::new(1);
+    let f = minutes(1);
     let mut edges = [f; 27];
     let mut weights = [f; 8];
     let mut list = MarkTable::new();
@@ -157,7 +153,7 @@ fn small_worklists(rt: HostRuntime) -> Result<(), Fail> {
 
 #[test]
 fn blank_records(rt: HostRuntime) -> Result<(), Fail> {
-    let f = Minutes::new(1);
+    let f = minutes(1);
     let mut all = [f; 27];
     let mut edges = [f; 0];
     let mut weights = [f; 0];
@@ -182,5 +178,26 @@ fn blank_records(rt: HostRuntime) -> Result<(), Fail> {
         number(blank.question(&edges, &list, &mut scratch, 9, &[])),
         4
     );
+    Ok(())
+}
+
+#[test]
+fn say_why(rt: HostRuntime) -> Result<(), Fail> {
+    let at = BrokenAt {
+        place: 3,
+        control: 0,
+        length: 1,
+    };
+    let texts = [
+        (Refusal::Full, "there are as many rules as may be"),
+        (
+            Refusal::Misfit(at),
+            "no rule fits at entry 3, in control 0 with a stack of 1",
+        ),
+    ];
+    for (refusal, text) in texts {
+        let said = format!(in rt.alloc(); "{refusal}")?;
+        assert_eq!(rt; said.as_str(), text);
+    }
     Ok(())
 }

@@ -1,5 +1,7 @@
 use crate::bench::worked;
 use checker::refusals::Refusal;
+use runs::replay::BrokenAt;
+use scale::minutes::Minutes;
 use std::test::Fail;
 
 #[test]
@@ -9,7 +11,7 @@ fn runs_to_the_target(rt: HostRuntime) -> Result<(), Fail> {
     let run = b.record.replay(&b.weights, &[0, 1, 2], 0, &mut buffer, 2)?;
     assert_eq!(rt; run.control, 0);
     assert_eq!(rt; run.length, 1);
-    assert_eq!(rt; run.weight.count(), Some(10));
+    assert_eq!(rt; run.weight.map(Minutes::count), Some(10));
     // The places that the run has emptied keep their bytes.
     assert!(rt; buffer == [2, 1, 0]);
     Ok(())
@@ -19,22 +21,15 @@ fn runs_to_the_target(rt: HostRuntime) -> Result<(), Fail> {
 fn stops_where_a_symbol_has_no_place(rt: HostRuntime) -> Result<(), Fail> {
     let b = worked()?;
     let mut buffer = [2, 0];
-    match b.record.replay(&b.weights, &[0, 1, 2], 0, &mut buffer, 2) {
-        Err(
-            Refusal::NoRoom {
-                place,
-                control,
-                length,
-            },
-        ) => {
-            assert_eq!(rt; place, 0);
-            assert_eq!(rt; control, 0);
-            assert_eq!(rt; length, 2);
-            assert!(rt; buffer == [2, 0]);
-            Ok(())
-        }
-        _ => Err(Fail::new("not broken off for want of room")),
-    }
+    let answer = b.record.replay(&b.weights, &[0, 1, 2], 0, &mut buffer, 2);
+    let at = BrokenAt {
+        place: 0,
+        control: 0,
+        length: 2,
+    };
+    assert_eq!(rt; answer.err(), Some(Refusal::NoRoom(at)));
+    assert!(rt; buffer == [2, 0]);
+    Ok(())
 }
 
 #[test]
@@ -46,22 +41,15 @@ fn stops_where_a_rule_does_not_fit(rt: HostRuntime) -> Result<(), Fail> {
         (&[0, 1, 2, 7], 3, 0, 1),
         (&[0, 1, 2, 3], 3, 0, 1),
     ];
-    for (numbers, at, stands, height) in stops {
+    for (numbers, place, control, length) in stops {
         let mut buffer = [2, 0, 9];
-        match b.record.replay(&b.weights, numbers, 0, &mut buffer, 2) {
-            Err(
-                Refusal::Misfit {
-                    place,
-                    control,
-                    length,
-                },
-            ) => {
-                assert_eq!(rt; place, at);
-                assert_eq!(rt; control, stands);
-                assert_eq!(rt; length, height);
-            }
-            _ => return Err(Fail::new("not broken off at a rule that does not fit")),
-        }
+        let answer = b.record.replay(&b.weights, numbers, 0, &mut buffer, 2);
+        let at = BrokenAt {
+            place,
+            control,
+            length,
+        };
+        assert_eq!(rt; answer.err(), Some(Refusal::Misfit(at)));
     }
     Ok(())
 }
@@ -69,18 +57,14 @@ fn stops_where_a_rule_does_not_fit(rt: HostRuntime) -> Result<(), Fail> {
 #[test]
 fn refused_before_the_first_entry(rt: HostRuntime) -> Result<(), Fail> {
     let b = worked()?;
-    let refused: [(&[u8], usize, usize, u8); 5] = [
-        (&[2, 0], 3, 0, 2),
-        (&[2, 0], 3, 2, 2),
-        (&[2, 3], 2, 2, 5),
-        (&[2, 3], 2, 1, 6),
-        (&[2, 3], 1, 1, 0),
+    let refused = [
+        ([2, 0], 3, 0, 2),
+        ([2, 0], 3, 2, 2),
+        ([2, 3], 2, 2, 5),
+        ([2, 3], 2, 1, 6),
+        ([2, 3], 1, 1, 0),
     ];
-    for (stack, height, control, expected) in refused {
-        let mut buffer = [0; 2];
-        if let [bottom, top] = stack {
-            buffer = [*bottom, *top];
-        }
+    for (mut buffer, height, control, expected) in refused {
         match b
             .record
             .replay(&b.weights, &[], control, &mut buffer, height)

@@ -1,6 +1,7 @@
 ghost use Rattle.std.specs.Prelude.{◌&&◌, ◌==◌};
 ghost use Rattle.std.proofs.Common.{rules};
 
+use std::mem;
 use worklist::Worklist;
 
 // A worklist for the number 0 alone.
@@ -43,10 +44,6 @@ impl Worklist for Single {
     }
 
     fn take(&mut self) -> Option<usize> {
-        if self.waits {
-            self.waits = false;
-            return Some(0);
-        }
-        None
+        mem::take(&mut self.waits).then_some(0)
     }
 }

@@ -1,3 +1,4 @@
+use crate::bench::number;
 use automaton::sizes::Sizes;
 use checker::record::Record;
 use scale::Scale;
@@ -15,10 +16,7 @@ fn opened(controls: usize, states: usize, symbols: usize, limit: usize) -> u8 {
         symbols,
         limit,
     };
-    match record.open(sizes, &mut edges, &mut worklist) {
-        Ok(_) => 0,
-        Err(refusal) => refusal.number(),
-    }
+    number(record.open(sizes, &mut edges, &mut worklist))
 }
 
 #[test]

@@ -1,3 +1,4 @@
+use crate::bench::{flags, minutes};
 use scale::Scale;
 use scale::flags::Flags;
 use scale::minutes::Minutes;
@@ -15,7 +16,7 @@ fn minutes_stop_at_ten_thousand(rt: HostRuntime) {
     ];
     for (first, second, sum) in sums {
         assert_eq!(rt;
-            Minutes::new(first).extend(Minutes::new(second)).count(),
+            minutes(first).extend(minutes(second)).map(Minutes::count),
             Some(sum)
         );
     }
@@ -31,31 +32,36 @@ fn minutes_combine_to_the_smaller(rt: HostRuntime) {
     ];
     for (first, second, smaller) in pairs {
         assert_eq!(rt;
-            Minutes::new(first).combine(Minutes::new(second)).count(),
+            minutes(first).combine(minutes(second)).map(Minutes::count),
             Some(smaller)
         );
     }
-    assert_eq!(rt; Minutes::none().combine(Minutes::new(9)).count(), Some(9));
-    assert_eq!(rt; Minutes::new(9).extend(Minutes::none()).count(), None);
-    assert!(rt; Minutes::Of(10_001).same(Minutes::new(10_000)));
+    assert_eq!(rt;
+        Option::<Minutes>::none()
+            .combine(minutes(9))
+            .map(Minutes::count),
+        Some(9)
+    );
+    assert_eq!(rt; minutes(9).extend(Option::none()).map(Minutes::count), None);
+    assert!(rt; Some(Minutes { count: 10_001 }).same(minutes(10_000)));
 }
 
 #[test]
 fn set_flags_widen_what_is_kept(rt: HostRuntime) {
-    let wide = Flags::new(1, 6);
-    assert_eq!(rt; wide.keep(), Some(7));
-    assert_eq!(rt; wide.set(), Some(6));
-    assert!(rt; wide.same(Flags::new(7, 6)));
-    assert!(rt; !wide.same(Flags::new(7, 4)));
-    assert!(rt; !Flags::none().same(Flags::new(0, 0)));
+    let wide = flags(1, 6);
+    assert_eq!(rt; wide.map(Flags::keep), Some(7));
+    assert_eq!(rt; wide.map(Flags::set), Some(6));
+    assert!(rt; wide.same(flags(7, 6)));
+    assert!(rt; !wide.same(flags(7, 4)));
+    assert!(rt; !Option::<Flags>::none().same(flags(0, 0)));
 }
 
 #[test]
 fn flags_extend_in_order(rt: HostRuntime) {
-    let sets = Flags::new(0xffff_ffff, 1);
-    let clears = Flags::new(0xffff_fffe, 0);
-    assert!(rt; sets.extend(clears).same(Flags::new(0xffff_fffe, 0)));
-    assert!(rt; clears.extend(sets).same(Flags::new(0xffff_ffff, 1)));
+    let sets = flags(0xffff_ffff, 1);
+    let clears = flags(0xffff_fffe, 0);
+    assert!(rt; sets.extend(clears).same(flags(0xffff_fffe, 0)));
+    assert!(rt; clears.extend(sets).same(flags(0xffff_ffff, 1)));
     assert!(rt; sets.combine(clears).same(sets));
 }
 

@@ -1,5 +1,4 @@
-use crate::bench::worked;
-use scale::Scale;
+use crate::bench::{minutes, worked};
 use scale::minutes::Minutes;
 use std::test::Fail;
 
@@ -18,7 +17,7 @@ fn settles_and_answers(rt: HostRuntime) -> Result<(), Fail> {
     ];
     for (control, word, count) in questions {
         let answer = b.ask(control, word)?;
-        assert_eq!(rt; answer.weight.count(), count);
+        assert_eq!(rt; answer.weight.map(Minutes::count), count);
         assert!(rt; answer.settled);
     }
     Ok(())
@@ -32,7 +31,7 @@ fn stops_at_its_budget(rt: HostRuntime) -> Result<(), Fail> {
     assert_eq!(rt; report.raises, 3);
     assert!(rt; !report.settled);
     let answer = b.ask(0, &[0, 2])?;
-    assert_eq!(rt; answer.weight.count(), Some(10));
+    assert_eq!(rt; answer.weight.map(Minutes::count), Some(10));
     assert!(rt; !answer.settled);
     Ok(())
 }
@@ -41,11 +40,11 @@ fn stops_at_its_budget(rt: HostRuntime) -> Result<(), Fail> {
 fn goes_on_after_an_addition(rt: HostRuntime) -> Result<(), Fail> {
     let mut b = worked()?;
     b.settle(100)?;
-    assert_eq!(rt; b.rule((0, 0), 0, &[], Minutes::new(4))?, 4);
+    assert_eq!(rt; b.rule((0, 0), 0, &[], minutes(4))?, 4);
     let report = b.settle(100)?;
     assert_eq!(rt; report.steps, 2);
     assert_eq!(rt; report.raises, 1);
     assert!(rt; report.settled);
-    assert_eq!(rt; b.ask(0, &[0, 2])?.weight.count(), Some(4));
+    assert_eq!(rt; b.ask(0, &[0, 2])?.weight.map(Minutes::count), Some(4));
     Ok(())
 }

@@ -1,72 +1,80 @@
--- What a ring's ghost fields say stays true when a number is put or taken.
-use Rattle.std.proofs.Common.{◌≡◌, ℕ, ◌+◌, ◌-◌, ◌<◌, ◌≤◌, Bool, true, false, not, ◌&&◌, ◌||◌, eqb, ltb, List, ◌∷◌, length, get_or, set, replicate, sym, refl, ap, ◌∙◌, arith}
+-- A ring stays as its ghost fields and its invariant say, and its queue is as it should be, when a number is put or taken.
+use Rattle.std.proofs.Common.{◌≡◌, ℕ, ◌+◌, ◌-◌, ◌<◌, ◌≤◌, false, true, nat_lt, List, [], ◌∷◌, ◌++◌, length, slice_index, slice_set, replicate, Some, IsTrue, sym, ap, ◌∙◌, arith}
 use Rattle.std.proofs.lemmas.Bool.{and_parts, ltb-true}
-use Rattle.worklist.specs.declared.ring.Ring.{Ring}
-use Rattle.worklist.specs.Sets.{marked}
-use Rattle.worklist.specs.Rings.{used, around, queue, member, all_below, distinct}
-use Rattle.worklist.proofs.Counting.{room_for_new}
-use Rattle.worklist.proofs.Distinct.{member_push, all_below_push, distinct_push, member_rest}
-use Rattle.worklist.proofs.Marks.{marked_set, marked_unset, all_clear}
-use Rattle.worklist.proofs.Queue.{around_within, length_round, used_set, queue_push, queue_front}
+use Rattle.std.proofs.lemmas.Bool.Decides.{nat_tests}
+use Rattle.worklist.specs.declared.ring.Ring.TheInside.{Inside}
+use Rattle.worklist.specs.Sets.{without}
+use Rattle.worklist.specs.Rings.{used, around, queue, member, all_below, distinct, IsLaid}
+use Rattle.worklist.proofs.Distinct.{member_push, all_below_push, distinct_push, room_for_new}
+use Rattle.worklist.proofs.Marks.{marked-set, all_clear}
+use Rattle.worklist.proofs.Ordering.{take_set}
+use Rattle.worklist.proofs.Queue.{around_within, length_round, used_set, queue-set_behind, queue_push, queue_front}
 
--- what the ghost fields of a ring say
-abbrev pub Kept : List ℕ → ℕ → ℕ → List Bool → Type 0
-Kept slots head len marks = record {
-  starts : head ≤ used slots - 1;
-  few : len ≤ used slots;
-  low : all_below (used slots) (queue slots head len) ≡ true;
-  once : distinct (queue slots head len) ≡ true;
-  noted : (n : ℕ) → marked marks n ≡ member (queue slots head len) n;
-}
+-- a ring's invariant, over its fields
+abbrev pub Laid : Inside → Type 0
+Laid r = IsLaid r.slots.now r.head r.len r.marks
 
-pub kept_by : (ring : Ring) → Kept ring.slots.now ring.head ring.len ring.marks
-kept_by ring = record { starts = ring.starts; few = ring.few; low = ring.low; once = ring.once; noted = ring.noted }
+-- the numbers that wait, over a ring's fields
+abbrev pub waiting_in : Inside → List ℕ
+waiting_in r = queue r.slots.now r.head r.len
 
-pub kept_empty : (slots : List ℕ) (head : ℕ) → head ≤ used slots - 1 → Kept slots head 0 (replicate 512 false)
-kept_empty slots head starts = record { starts = starts; few = omega arith; low = refl; once = refl; noted = λ n. ap (λ s. s n) all_clear }
+pub laid_empty : (slots : List ℕ) (head : ℕ) → head ≤ used slots - 1 → IsLaid slots head 0 (replicate 512 false)
+laid_empty slots head starts = record { starts = starts; few = omega arith; noted = λ n. ap (λ s. s n) all_clear }
 
--- a new number finds room
-pub put_fits : (slots : List ℕ) (head len : ℕ) (marks : List Bool) (n : ℕ) → Kept slots head len marks → n < used slots → member (queue slots head len) n ≡ false → len < used slots
-put_fits slots head len marks n kept within new =
-    let fits = room_for_new (used slots) (queue slots head len) n kept.low kept.once new within in
-    omega (arith, length_round (used slots) slots head len)
+-- what the ghost fields say
+pub record IsSound (slots : List ℕ) (head len : ℕ) : Type 0 where
+  pub low : IsTrue (all_below (used slots) (queue slots head len))
+  pub once : IsTrue (distinct (queue slots head len))
 
-pub kept_put : (slots : List ℕ) (head len : ℕ) (marks : List Bool) (at n : ℕ) → Kept slots head len marks → length marks ≡ 512 → at ≡ around (used slots) (head + len) → n < used slots → member (queue slots head len) n ≡ false → Kept (set slots at n) head (len + 1) (set marks n true)
-kept_put slots head len marks at n kept full place within new =
-    let before : List ℕ = queue slots head len in
-    let size = used_set slots at n in
-    let fits = put_fits slots head len marks n kept within new in
-    let after = queue_push slots head len at n place kept.starts fits in
-    let low = all_below_push (used slots) before n within kept.low in
-    let once = distinct_push before n new kept.once in
+-- a new number is written behind the others, counted and marked
+pub record Put (r : Inside) (at n : ℕ) : Type 0 where
+  pub written : IsSound (slice_set r.slots.now at n) r.head r.len
+  pub counted : IsSound (slice_set r.slots.now at n) r.head (r.len + 1)
+  pub marked : IsLaid (slice_set r.slots.now at n) r.head (r.len + 1) (slice_set r.marks n true)
+  pub order : queue (slice_set r.slots.now at n) r.head (r.len + 1) ≡ waiting_in r ++ n ∷ []
+
+module _ (r : Inside) (laid : Laid r) (full : length r.marks ≡ 512) (at n : ℕ) (place : at ≡ around (used r.slots.now) (r.head + r.len)) (within : n < used r.slots.now) (new : member (waiting_in r) n ≡ false) where
+  sound : (len : ℕ) (numbers : List ℕ) → queue (slice_set r.slots.now at n) r.head len ≡ numbers → all_below (used r.slots.now) numbers ≡ true → distinct numbers ≡ true → IsSound (slice_set r.slots.now at n) r.head len
+  sound len numbers is low once =
+      record { low = ap (λ c. all_below c (queue (slice_set r.slots.now at n) r.head len)) (used_set r.slots.now at n) ∙ ap (all_below (used r.slots.now)) is ∙ low; once = ap distinct is ∙ once }
+
+  pub put : Put r at n
+  put =
+      let before : List ℕ = waiting_in r in
+      let room = room_for_new (used r.slots.now) before n r.low r.once new within in
+      let fits : r.len < used r.slots.now = omega (arith, length_round (used r.slots.now) r.slots.now r.head r.len) in
+      let size = used_set r.slots.now at n in
+      let behind = queue-set_behind r.slots.now r.head r.len at n place laid.starts fits in
+      let after = queue_push r.slots.now r.head r.len at n place laid.starts fits in
+      record {
+        written = sound r.len before behind r.low r.once;
+        counted = sound (r.len + 1) (before ++ n ∷ []) after (all_below_push (used r.slots.now) before n within r.low) (distinct_push before n new r.once);
+        marked = record {
+          starts = omega (arith, laid.starts);
+          few = omega arith;
+          noted = λ m. grind (arith, nat_tests, marked-set r.marks n m true full (omega arith), laid.noted m, member_push before n m, ap (λ q. member q m) after);
+        };
+        order = after;
+      }
+
+-- the first number is passed over, and its mark cleared
+pub record Take (r : Inside) (next : ℕ) : Type 0 where
+  pub laid : IsLaid r.slots.now next (r.len - 1) (slice_set r.marks (slice_index r.slots.now r.head) false)
+  pub left : member (queue r.slots.now next (r.len - 1)) ≡ without (member (waiting_in r)) (Some (slice_index r.slots.now r.head))
+
+pub take : (r : Inside) → Laid r → length r.marks ≡ 512 → (next : ℕ) → next ≡ around (used r.slots.now) (r.head + 1) → 0 < r.len → Take r next
+take r laid full next place some =
+    let first : ℕ = slice_index r.slots.now r.head in
+    let rest : List ℕ = queue r.slots.now next (r.len - 1) in
+    let front = queue_front r.slots.now r.head r.len next place some in
+    let left = take_set (waiting_in r) rest first r.once front in
+    let low = and_parts (nat_lt first (used r.slots.now)) (all_below (used r.slots.now) rest) (ap (all_below (used r.slots.now)) (sym front) ∙ r.low) in
+    let within = ltb-true first (used r.slots.now) low.0 in
     record {
-      starts = omega (arith, kept.starts);
-      few = omega arith;
-      low = ap (λ c. all_below c (queue (set slots at n) head (len + 1))) size ∙ ap (all_below (used slots)) after ∙ low;
-      once = ap distinct after ∙ once;
-      noted = λ m. marked_set marks n m full (omega arith) ∙ ap (λ b. b || eqb m n) (kept.noted m) ∙ sym (member_push before n m) ∙ ap (λ q. member q m) (sym after);
-    }
-
--- the first number is below the capacity
-pub first_below : (slots : List ℕ) (head len : ℕ) (marks : List Bool) → Kept slots head len marks → 0 < len → get_or slots head 0 < used slots
-first_below slots head len marks kept some =
-    let first : ℕ = get_or slots head 0 in
-    let rest : List ℕ = queue slots (around (used slots) (head + 1)) (len - 1) in
-    let front = queue_front slots head len (around (used slots) (head + 1)) refl some in
-    ltb-true first (used slots) (and_parts (ltb first (used slots)) (all_below (used slots) rest) (ap (all_below (used slots)) (sym front) ∙ kept.low)).0
-
-pub kept_take : (slots : List ℕ) (head len : ℕ) (marks : List Bool) (next : ℕ) → Kept slots head len marks → length marks ≡ 512 → next ≡ around (used slots) (head + 1) → 0 < len → Kept slots next (len - 1) (set marks (get_or slots head 0) false)
-kept_take slots head len marks next kept full place some =
-    let first : ℕ = get_or slots head 0 in
-    let rest : List ℕ = queue slots next (len - 1) in
-    let front = queue_front slots head len next place some in
-    let within = first_below slots head len marks kept some in
-    let low = and_parts (ltb first (used slots)) (all_below (used slots) rest) (ap (all_below (used slots)) (sym front) ∙ kept.low) in
-    let once : distinct (first ∷ rest) ≡ true = ap distinct (sym front) ∙ kept.once in
-    record {
-      starts = omega (arith, around_within (used slots) (head + 1) (omega (arith, kept.starts, kept.few)), kept.starts, kept.few);
-      few = omega (arith, kept.few);
-      low = low.1;
-      once = (and_parts (not (member rest first)) (distinct rest) once).1;
-      noted = λ m. marked_unset marks first m full (omega arith) ∙ ap (λ b. b && not (eqb m first)) (kept.noted m ∙ ap (λ q. member q m) front) ∙ sym (member_rest first rest m once);
+      laid = record {
+        starts = omega (arith, around_within (used r.slots.now) (r.head + 1) (omega (arith, laid.starts, laid.few)), laid.starts, laid.few);
+        few = omega (arith, laid.few);
+        noted = λ m. grind (arith, nat_tests, marked-set r.marks first m false full (omega arith), laid.noted m, ap (λ s. s m) left);
+      };
+      left = left;
     }

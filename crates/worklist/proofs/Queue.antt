@@ -1,7 +1,7 @@
 -- The queue of a ring: one more at its end, one less at its front.
-use Rattle.std.proofs.Common.{◌≡◌, ℕ, zero, suc, ◌+◌, ◌-◌, ◌<◌, ◌≤◌, min, eqb, ◌≢◌, List, [], ◌∷◌, ◌++◌, length, get_or, set, Decides, sym, refl, ap, ◌∙◌, add-one, arith}
+use Rattle.std.proofs.Common.{◌≡◌, ℕ, zero, suc, ◌+◌, ◌-◌, ◌<◌, ◌≤◌, min, ◌==◌, ◌↔◌, ◌≢◌, List, [], ◌∷◌, ◌++◌, length, slice_index, slice_set, IsTrue, sym, refl, ap, ap₂, ◌∙◌, add-one, arith}
 use Rattle.std.proofs.lemmas.List.{get_or-set_same, get_or-set_other, length-set}
-use Rattle.std.proofs.lemmas.Bool.{or_right, eqb-true, eq-eqb, false≢true}
+use Rattle.std.proofs.lemmas.Bool.{or_left, eqb-true, eq-eqb, false≢true}
 use Rattle.std.proofs.lemmas.Bool.Decides.{nat_tests}
 use Rattle.worklist.specs.Sets.{empty}
 use Rattle.worklist.specs.Rings.{used, around, round, queue, member}
@@ -24,44 +24,62 @@ pub length_round : (c : ℕ) (slots : List ℕ) (h count : ℕ) → length (roun
 length_round c slots h zero = refl
 length_round c slots h (suc k) = ap suc (length_round c slots (around c (h + 1)) k)
 
--- a number that is written after the last one goes last
-round_push : (c : ℕ) (slots : List ℕ) (h count n : ℕ) → c ≤ length slots → h < c → count < c → round c (set slots (around c (h + count)) n) h (suc count) ≡ round c slots h count ++ n ∷ []
-round_push c slots h zero n fits l k =
-    ap (λ x. x ∷ []) (ap (λ p. get_or (set slots p n) h 0) (around_here c h l) ∙ get_or-set_same slots h n 0 (omega arith))
-round_push c slots h (suc i) n fits l k =
+-- one more slot, at the end
+round_last : (c : ℕ) (slots : List ℕ) (h count : ℕ) → h < c → count < c → round c slots h (suc count) ≡ round c slots h count ++ slice_index slots (around c (h + count)) ∷ []
+round_last c slots h zero l k = ap (λ p. slice_index slots p ∷ []) (sym (around_here c h l))
+round_last c slots h (suc i) l k =
+    ap (λ xs. slice_index slots h ∷ xs) (round_last c slots (around c (h + 1)) i (around_within c (h + 1) (omega arith)) (omega arith)
+    ∙ ap (λ p. round c slots (around c (h + 1)) i ++ slice_index slots p ∷ []) (sym (around_step c h i l (omega arith))))
+
+-- a write behind the slots leaves what stands in them
+round-set_behind : (c : ℕ) (slots : List ℕ) (h count i n : ℕ) → h < c → count ≤ i → i < c → round c (slice_set slots (around c (h + i)) n) h count ≡ round c slots h count
+round-set_behind c slots h zero i n l few k = refl
+round-set_behind c slots h (suc count) zero n l few k = absurd (omega arith)
+round-set_behind c slots h (suc count) (suc i) n l few k =
     let next : ℕ = around c (h + 1) in
-    let kept = get_or-set_other slots (around c (h + suc i)) h n 0 (around_other c h i l k) in
-    let moved = ap (λ p. round c (set slots p n) next (suc i)) (around_step c h i l (omega arith)) in
-    let rest = round_push c slots next i n fits (around_within c (h + 1) (omega arith)) (omega arith) in
-    ap (λ x. x ∷ round c (set slots (around c (h + suc i)) n) next (suc i)) kept ∙ ap (λ xs. get_or slots h 0 ∷ xs) (moved ∙ rest)
+    let first = get_or-set_other slots (around c (h + suc i)) h n 0 (around_other c h i l k) in
+    let moved = ap (λ p. round c (slice_set slots p n) next count) (around_step c h i l (omega arith)) in
+    let rest = round-set_behind c slots next count i n (around_within c (h + 1) (omega arith)) (omega arith) (omega arith) in
+    ap (λ x. x ∷ round c (slice_set slots (around c (h + suc i)) n) next count) first ∙ ap (λ xs. slice_index slots h ∷ xs) (moved ∙ rest)
 
 -- what stands first, and the others from the next place on
-round_front : (c : ℕ) (slots : List ℕ) (h count : ℕ) → 0 < count → round c slots h count ≡ get_or slots h 0 ∷ round c slots (around c (h + 1)) (count - 1)
+round_front : (c : ℕ) (slots : List ℕ) (h count : ℕ) → 0 < count → round c slots h count ≡ slice_index slots h ∷ round c slots (around c (h + 1)) (count - 1)
 round_front c slots h zero l = absurd (omega arith)
-round_front c slots h (suc k) l =
-    let less : k ≡ suc k - 1 = omega arith in
-    ap (λ j. get_or slots h 0 ∷ round c slots (around c (h + 1)) j) less
+round_front c slots h (suc k) l = ap (λ j. slice_index slots h ∷ round c slots (around c (h + 1)) j) (omega arith)
 
 -- a queue is empty exactly when it has no slot
-pub decides_empty : (c : ℕ) (slots : List ℕ) (h count : ℕ) → Decides (eqb count 0) (member (round c slots h count) ≡ empty)
-decides_empty c slots h zero = (λ _. refl, λ _. refl)
-decides_empty c slots h (suc k) =
-    let first : ℕ = get_or slots h 0 in
+pub no_slot : (c : ℕ) (slots : List ℕ) (h count : ℕ) → IsTrue (count == 0) ↔ (member (round c slots h count) ≡ empty)
+no_slot c slots h zero = (λ _. refl, λ _. refl)
+no_slot c slots h (suc k) =
+    let first : ℕ = slice_index slots h in
     let rest : List ℕ = round c slots (around c (h + 1)) k in
-    let found = or_right (member rest first) (eqb first first) (eq-eqb first first refl) in
+    let found = or_left (first == first) (member rest first) (eq-eqb first first refl) in
     (λ e. absurd (omega (arith, eqb-true (suc k) 0 e)), λ e. absurd (false≢true (sym (ap (λ s. s first) e) ∙ found)))
 
-pub used_set : (slots : List ℕ) (at n : ℕ) → used (set slots at n) ≡ used slots
+pub used_set : (slots : List ℕ) (at n : ℕ) → used (slice_set slots at n) ≡ used slots
 used_set slots at n = ap (λ k. min k 512) (length-set slots at n)
 
-pub queue_push : (slots : List ℕ) (head len at n : ℕ) → at ≡ around (used slots) (head + len) → head ≤ used slots - 1 → len < used slots → queue (set slots at n) head (len + 1) ≡ queue slots head len ++ n ∷ []
-queue_push slots head len at n place starts few =
-    ap (λ c. round c (set slots at n) head (len + 1)) (used_set slots at n)
-    ∙ ap (λ k. round (used slots) (set slots at n) head k) (add-one len)
-    ∙ ap (λ p. round (used slots) (set slots p n) head (suc len)) place
-    ∙ round_push (used slots) slots head len n (omega arith) (omega arith) few
+module _ (slots : List ℕ) (head len at n : ℕ) (place : at ≡ around (used slots) (head + len)) (starts : head ≤ used slots - 1) (few : len < used slots) where
+  behind : round (used slots) (slice_set slots at n) head len ≡ queue slots head len
+  behind =
+      ap (λ p. round (used slots) (slice_set slots p n) head len) place
+      ∙ round-set_behind (used slots) slots head len len n (omega arith) (omega arith) few
 
-pub queue_front : (slots : List ℕ) (head len next : ℕ) → next ≡ around (used slots) (head + 1) → 0 < len → queue slots head len ≡ get_or slots head 0 ∷ queue slots next (len - 1)
+  -- a number that is written behind the last one leaves those before it
+  pub queue-set_behind : queue (slice_set slots at n) head len ≡ queue slots head len
+  queue-set_behind = ap (λ c. round c (slice_set slots at n) head len) (used_set slots at n) ∙ behind
+
+  -- and goes last
+  pub queue_push : queue (slice_set slots at n) head (len + 1) ≡ queue slots head len ++ n ∷ []
+  queue_push =
+      let within = around_within (used slots) (head + len) (omega arith) in
+      let last = ap (λ p. slice_index (slice_set slots at n) p) (sym place) ∙ get_or-set_same slots at n 0 (omega arith) in
+      ap (λ k. queue (slice_set slots at n) head k) (add-one len)
+      ∙ ap (λ c. round c (slice_set slots at n) head (suc len)) (used_set slots at n)
+      ∙ round_last (used slots) (slice_set slots at n) head len (omega arith) few
+      ∙ ap₂ (λ xs m. xs ++ m ∷ []) behind last
+
+pub queue_front : (slots : List ℕ) (head len next : ℕ) → next ≡ around (used slots) (head + 1) → 0 < len → queue slots head len ≡ slice_index slots head ∷ queue slots next (len - 1)
 queue_front slots head len next place some =
     round_front (used slots) slots head len some
-    ∙ ap (λ p. get_or slots head 0 ∷ round (used slots) slots p (len - 1)) (sym place)
+    ∙ ap (λ p. slice_index slots head ∷ round (used slots) slots p (len - 1)) (sym place)

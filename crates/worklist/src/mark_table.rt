@@ -1,61 +1,65 @@
-ghost use Rattle.std.specs.Prelude.{◌≡◌, ℕ, ◌<◌, true, false, length, MatchOption, slice_index_or};
+ghost use Rattle.std.specs.Prelude.{◌≡◌, true, MatchOption};
 ghost use Rattle.worklist.specs.Sets.{empty, without, marked, Least};
 ghost use Rattle.std.proofs.Common.{rules};
 
-use crate::Worklist;
+use crate::{MARKS, Worklist};
+use std::marker::Model;
 
 // One mark for each number below 512; the smallest marked number is taken first.
-#[derive(Drop)]
+#[derive(Debug, Drop)]
 pub struct MarkTable {
-    marks: [bool; 512],
+    // An array and no `Vec`: nothing here is on the heap.
+    marks: [bool; MARKS],
+}
+
+// Clauses see the marks.
+impl Model for MarkTable {
+    ghost use Rattle.std.specs.Prelude.{Bool, List};
+
+    ghost Value = { List Bool };
+
+    ghost view = { λ t. t.marks };
 }
 
 impl MarkTable {
-    pub fn new() -> MarkTable
-        ensures { marked result.marks ≡ empty }
+    pub fn new() -> Self
+        ensures { marked result ≡ empty }
     {
         MarkTable {
-            marks: [false; 512],
+            marks: [false; MARKS],
         }
     }
 }
 
-// The first place that is marked.
-fn first_marked(marks: &[bool]) -> Option<usize>
-    ensures { MatchOption result ((k : ℕ) → k < length marks.now → slice_index_or marks.now k false ≡ false) (λ n. (n < length marks.now) × (slice_index_or marks.now n false ≡ true) × ((k : ℕ) → k < n → slice_index_or marks.now k false ≡ false)) }
-{
-    for (i, mark) in marks.iter().enumerate() {
-        if *mark {
-            return Some(i);
-        }
+impl Default for MarkTable {
+    ghost is_default = { λ t. marked t ≡ empty };
+
+    fn default() -> Self {
+        MarkTable::new()
     }
-    None
 }
 
 impl Worklist for MarkTable {
     ghost room = { λ _. 512 };
 
-    ghost waiting = { λ t. marked t.marks };
+    ghost waiting = { marked };
 
     ghost within = { Prim.search rules };
 
     fn capacity(&self) -> usize {
-        512
+        MARKS
     }
 
     fn is_empty(&self) -> bool {
-        match first_marked(&self.marks) {
-            Some(_) => false,
-            None => true,
-        }
+        !self.marks.contains(&true)
     }
 
     fn clear(&mut self) {
-        self.marks = [false; 512];
+        self.marks = [false; MARKS];
     }
 
     fn put(&mut self, number: usize) -> Result<(), usize> {
-        if number >= 512 {
+        if number >= MARKS {
             return Err(number);
         }
         self.marks[number] = true;
@@ -63,15 +67,12 @@ impl Worklist for MarkTable {
     }
 
     fn take(&mut self) -> Option<usize>
-        ensures kept { ◌≡◌ {A = ℕ} 512 512 }
-        ensures waited { MatchOption result (marked self.old.marks ≡ empty) (λ n. marked self.old.marks n ≡ true) }
-        ensures set { marked self.new.marks ≡ without (marked self.old.marks) result }
-        ensures smallest { Least (marked self.old.marks) result }
+        ensures waited { MatchOption result (marked self.old ≡ empty) (λ n. marked self.old n ≡ true) }
+        ensures set { marked self.new ≡ without (marked self.old) result }
+        ensures smallest { Least (marked self.old) result }
     {
-        let found = first_marked(&self.marks);
-        if let Some(number) = found {
-            self.marks[number] = false;
-        }
-        found
+        let number = self.marks.iter().position(|mark| *mark)?;
+        self.marks[number] = false;
+        Some(number)
     }
 }

@@ -1,8 +1,5 @@
-use Rattle.std.proofs.Common.{◌≡◌, ◌++◌, map, drop, replicate}
+use Rattle.std.proofs.Common.{◌≡◌, map, take, replicate}
 use Rattle.automaton.proofs.edges.clear_places.Given as goal
 
 abbrev pub invariant-loop-place : goal.invariant-loop-place
-invariant-loop-place g l =
-    let value = g.S.Scale.value in
-    (map value l.edges ≡ replicate l.place g.S.Scale.values.none ++ drop l.place (map value l.initial.edges))
-    × (drop l.count l.edges ≡ drop l.count l.initial.edges)
+invariant-loop-place g l = map g.S.Scale.value (take l.place-index l.place-items) ≡ replicate l.place-index g.S.Scale.values.none

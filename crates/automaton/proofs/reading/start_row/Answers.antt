@@ -1,24 +1,18 @@
-use Rattle.std.proofs.Common.{◌≡◌, ◌<◌, Bool, false, cond, [], ◌∷◌, length, get_or, sym, ap, ◌∙◌, arith, below_more}
+use Rattle.std.proofs.Common.{◌≡◌, ◌<◌, Bool, false, if◌then◌else◌, [], ◌∷◌, slice_index_or, arith}
+use Rattle.std.proofs.lemmas.Grind.{common_steps}
 use Rattle.scale.specs.Semiring.{combined}
-use Rattle.automaton.proofs.RowFacts.{place_same, place_other, combined_one}
+use Rattle.automaton.proofs.RowFacts.{written_more, combined_one}
 use Rattle.automaton.proofs.reading.start_row.Goals as goal
-use Rattle.automaton.proofs.reading.start_row.Goals.{then-finals-state, else-finals-state}
+use Rattle.automaton.proofs.reading.start_row.Goals.{then-is_final, else-is_final}
 
 pub loop-state-preserved : goal.loop-state-preserved
 loop-state-preserved g c =
     let s = g.S.Scale.values in
     let value = g.S.Scale.value in
-    let xs = c.loop-state.scratch in
-    let i = c.loop-state.state in
-    let x = c.if-finals-state.scratch in
-    let here : i < length xs = omega arith in
-    let at_i : value x ≡ combined s (cond (get_or c.args.finals.now i false) (s.one ∷ []) []) =
-    elim c.if-finals-state.branch [
-      | then-finals-state w ↦ ap value w.scratch-is ∙ w.one.ensures ∙ sym (combined_one s g.met.S.Scale.combines s.one)
-          ∙ ap (λ (b : Bool). combined s (cond b (s.one ∷ []) [])) (sym w.if-finals-state.true)
-      | else-finals-state w ↦ ap value w.scratch-is ∙ w.none.ensures
-          ∙ ap (λ (b : Bool). combined s (cond b (s.one ∷ []) [])) (sym w.if-finals-state.false)
-    ] in
-    below_more _ _
-    (λ k h. place_other s value xs i k x (λ e. omega arith) ∙ c.loop-state.invariant k h)
-    (place_same s value xs i x here ∙ at_i)
+    let state = c.loop-state.state in
+    let start = λ (b : Bool). combined s (if b then s.one ∷ [] else []) in
+    let one = combined_one s g.met.S.Scale.combines s.one in
+    let is : value c.if-is_final.scratch ≡ start (slice_index_or c.args.finals.now state false) =
+    elim c.if-is_final.branch [ then-is_final w ↦ grind (arith, common_steps) | else-is_final w ↦ grind (arith, common_steps) ] in
+    let within : state < c.args.states = grind (arith, common_steps) in
+    written_more s value c.loop-state.scratch state c.if-is_final.scratch (λ k. start (slice_index_or c.args.finals.now k false)) (omega arith) c.loop-state.invariant is

@@ -7,7 +7,9 @@ abbrev pub invariant-loop-to : goal.invariant-loop-to
 invariant-loop-to g l =
     let value = g.S.Scale.value in
     let made = saturated g.S.Scale.values l.sizes l.rule (value l.weight) (map value l.initial.edges) l.to in
-    (map value l.edges ≡ made.0)
-    × (l.raises ≡ made.1)
-    × (l.raises ≤ l.to)
-    × (drop (edge_count l.sizes) l.edges ≡ drop (edge_count l.sizes) l.initial.edges)
+    record {
+      edges : map value l.edges ≡ made.0;
+      raises : l.raises ≡ made.1;
+      few : l.raises ≤ l.to;
+      rest : drop (edge_count l.sizes) l.edges ≡ drop (edge_count l.sizes) l.initial.edges;
+    }

@@ -1,34 +1,38 @@
-use Rattle.std.proofs.Common.{◌≡◌, ◌+◌, ◌<◌, false, ltb, length, ap, ◌∙◌, arith}
-use Rattle.std.proofs.lemmas.Bool.{lt-ltb, cond_below, both_ways}
-use Rattle.worklist.specs.Rings.{used, around, queue, member}
-use Rattle.worklist.proofs.Keeping.{kept_by, kept_put}
-use Rattle.worklist.proofs.Ordering.{put_order, put_set}
-use Rattle.worklist.proofs.Queue.{used_set}
+use Rattle.std.proofs.Common.{◌≡◌, ◌+◌, [], ◌∷◌, ◌++◌, slice_set, sym, ap, ◌∙◌, arith}
+use Rattle.worklist.specs.Rings.{used, around, queue, member, after_put}
+use Rattle.worklist.proofs.Keeping.{Put, put}
+use Rattle.worklist.proofs.Ordering.{new_after_put, put_set}
 use Rattle.worklist.proofs.ring.RingWorklist.put.Goals as goal
+use Rattle.worklist.proofs.ring.RingWorklist.put.Goals.{After-around-end}
+
+made : (c : After-around-end) → Put c.self.inside c.around-end.result c.args.number
+made c =
+    let r = c.self.inside in
+    let size : c.capacity-capacity.result ≡ used r.slots.now = c.capacity-capacity.ensures ∙ sym (ap (λ v. v.capacity) c.self.view_is) in
+    let place = c.around-end.ensures ∙ ap (λ k. around k (r.head + r.len)) size in
+    let new = ap (λ v. member v.numbers c.args.number) c.self.view_is ∙ sym c.if-not-waits.ensures in
+    put r c.self.invariant (omega arith) _ _ place (omega arith) new
+
+order : (c : After-around-end) → queue (slice_set c.self.inside.slots.now c.around-end.result c.args.number) c.self.inside.head (c.self.inside.len + 1) ≡ after_put c.args.self.now.capacity c.args.self.now.numbers c.args.number
+order c =
+    let v = c.args.self.now in
+    (made c).order ∙ ap (λ v. v.numbers ++ c.args.number ∷ []) c.self.view_is
+    ∙ new_after_put v.capacity v.numbers c.args.number (omega arith) (sym c.if-not-waits.ensures)
+
+pub invariant_of-self-inside : goal.invariant_of-self-inside
+invariant_of-self-inside c = let m = (made (goal.at.invariant_of-self-inside c).After-around-end).written in (m.low, (m.once, tt))
+
+pub invariant_of-self-inside-then-not-waits : goal.invariant_of-self-inside-then-not-waits
+invariant_of-self-inside-then-not-waits c =
+    let m = (made (goal.at.invariant_of-self-inside-then-not-waits c).After-around-end).counted in (m.low, (m.once, tt))
 
 pub invariant_of-self : goal.invariant_of-self
-invariant_of-self c =
-    let ring = c.args.self.now in
-    let slots = ring.slots.now in
-    let n = c.args.number in
-    let place = c.around-end.ensures ∙ ap (λ k. around k (ring.head + ring.len)) c.capacity-capacity.ensures in
-    let new : member (queue slots ring.head ring.len) n ≡ false = cc in
-    let full : length ring.marks ≡ 512 = omega arith in
-    kept_put slots ring.head ring.len ring.marks c.around-end.result n (kept_by ring) full place (omega arith) new
+invariant_of-self c = (made (goal.at.invariant_of-self c).After-around-end).marked
 
-pub returns-then-not-waits : goal.returns-then-not-waits
-returns-then-not-waits c =
-    let ring = c.args.self.now in
-    let slots = ring.slots.now in
-    let n = c.args.number in
-    let place = c.around-end.ensures ∙ ap (λ k. around k (ring.head + ring.len)) c.capacity-capacity.ensures in
-    let within : n < used slots = omega arith in
-    let new : member (queue slots ring.head ring.len) n ≡ false = cc in
-    let order = put_order slots ring.head ring.len ring.marks c.around-end.result n (kept_by ring) place within new in
-    record {
-      kept = used_set slots c.around-end.result n;
-      answer = cond_below n (used slots) _ _ within;
-      set = ap member order ∙ put_set (used slots) (queue slots ring.head ring.len) n;
-      refused = λ e. absurd (both_ways (ltb n (used slots)) e (lt-ltb n (used slots) within));
-      order = order;
-    }
+pub returns-then-not-waits-clause-set : goal.returns-then-not-waits-clause-set
+returns-then-not-waits-clause-set c =
+    let v = c.args.self.now in
+    ap member (order (goal.at.returns-then-not-waits-clause-set c).After-around-end) ∙ put_set v.capacity v.numbers c.args.number
+
+pub returns-then-not-waits-clause-order : goal.returns-then-not-waits-clause-order
+returns-then-not-waits-clause-order c = order (goal.at.returns-then-not-waits-clause-order c).After-around-end

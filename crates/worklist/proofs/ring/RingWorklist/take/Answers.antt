@@ -1,35 +1,21 @@
-use Rattle.std.proofs.Common.{◌≡◌, ◌+◌, ◌-◌, length, get_or, refl, ap, ◌∙◌, arith}
-use Rattle.worklist.specs.Rings.{around, queue}
-use Rattle.worklist.proofs.Keeping.{kept_by, kept_take, first_below}
-use Rattle.worklist.proofs.Ordering.{take_waited, take_set}
-use Rattle.worklist.proofs.Queue.{queue_front}
+use Rattle.std.proofs.Common.{◌≡◌, ◌+◌, slice_index, Some, sym, ap, ◌∙◌, arith}
+use Rattle.worklist.specs.Sets.{without}
+use Rattle.worklist.specs.Rings.{used, around, member}
+use Rattle.worklist.proofs.Keeping.{Take, take}
 use Rattle.worklist.proofs.ring.RingWorklist.take.Goals as goal
+use Rattle.worklist.proofs.ring.RingWorklist.take.Goals.{After-around-self-inside}
 
-pub bounds-self-number : goal.bounds-self-number
-bounds-self-number c =
-    let ring = c.args.self.now in
-    omega (arith, first_below ring.slots.now ring.head ring.len ring.marks (kept_by ring) (omega arith))
+made : (c : After-around-self-inside) → Take c.self.inside c.around-self-inside.result
+made c =
+    let r = c.self.inside in
+    let size : c.capacity-capacity.result ≡ used r.slots.now = c.capacity-capacity.ensures ∙ sym (ap (λ v. v.capacity) c.self.view_is) in
+    let place = c.around-self-inside.ensures ∙ ap (λ k. around k (r.head + 1)) size in
+    take r c.self.invariant (omega arith) _ place (omega arith)
 
 pub invariant_of-self : goal.invariant_of-self
-invariant_of-self c =
-    let ring = c.args.self.now in
-    let place = c.around-self.ensures ∙ ap (λ k. around k (ring.head + 1)) c.capacity-capacity.ensures in
-    let full : length ring.marks ≡ 512 = omega arith in
-    kept_take ring.slots.now ring.head ring.len ring.marks c.around-self.result (kept_by ring) full place (omega arith)
+invariant_of-self c = (made (goal.at.invariant_of-self c).After-around-self-inside).laid
 
-pub returns : goal.returns
-returns c =
-    let ring = c.args.self.now in
-    let slots = ring.slots.now in
-    let next = c.around-self.result in
-    let place = c.around-self.ensures ∙ ap (λ k. around k (ring.head + 1)) c.capacity-capacity.ensures in
-    let before = queue slots ring.head ring.len in
-    let rest = queue slots next (ring.len - 1) in
-    let n = get_or slots ring.head 0 in
-    let front = queue_front slots ring.head ring.len next place (omega arith) in
-    record {
-      kept = refl;
-      waited = take_waited before rest n front;
-      set = take_set before rest n ring.once front;
-      order = front;
-    }
+pub returns-clause-set : goal.returns-clause-set
+returns-clause-set c =
+    let number = slice_index c.self.inside.slots.now c.self.inside.head in
+    (made (goal.at.returns-clause-set c).After-around-self-inside).left ∙ ap (λ v. without (member v.numbers) (Some number)) c.self.view_is
