@@ -26,7 +26,7 @@ pub fn flags(keep: u32, set: u32) -> Option<Flags> {
     Some(Flags::new(keep, set))
 }
 
-// The number of the refusal, or 0.
+// The number of the refusal, or 0. By numbers, since these are what is promised.
 pub fn number<T: Drop>(answer: Result<T, Refusal>) -> u8 {
     answer.err().map_or(0, |refusal| refusal.number())
 }

@@ -33,7 +33,8 @@ macro_rules! lent {
 }
 
 // The worked table with the weights of its four rules: whether the settled answers for a survey and a purge are the sixth
-// and the seventh weight, before and after a rule of the fifth that skips the survey.
+// and the seventh weight, before and after a rule of the fifth that skips the survey. Not by the fixture, which holds arrays: a
+// generic function over it was tried, and would have to require that it fits in memory.
 fn worked<S: Scale, K: Worklist>(lent: Lent<'_, S, K>, given: [S; 7]) -> Result<bool, Refusal> {
     let Lent {
         edges,
