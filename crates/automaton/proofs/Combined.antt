@@ -1,5 +1,5 @@
 -- Combines of lists.
-use Rattle.std.proofs.Common.{◌≡◌, ℕ, ◌+◌, List, [], ◌∷◌, ◌++◌, sym, ap, ◌∙◌, add-one}
+use Rattle.std.proofs.Common.{◌≡◌, ℕ, ◌+◌, List, [], ◌∷◌, ◌++◌, sym, refl, ap, ◌∙◌, add-one}
 use Rattle.scale.specs.Semiring.{Semiring, Combines, Absorbs, combined}
 use Rattle.automaton.specs.Automaton.{Edges, below}
 
@@ -19,7 +19,11 @@ module _ {V : Type 0} (s : Semiring V) (laws : Combines s) where
       rw add-one (en ∙ ap (λ v. s.combine v item) es ∙ ap (s.combine (combined s (below k f))) ei ∙ sym pushed)
 
   -- a middle state to which there is no edge adds nothing
-  pub through_none : Absorbs s → (e : Edges V) (f : V) (p a b q k : ℕ) (sum : V) → sum ≡ combined s (below k (through s e f p a b q)) → e p a k ≡ s.none → sum ≡ combined s (below (k + 1) (through s e f p a b q))
-  through_none o e f p a b q k sum was none =
-      let nothing = ap (λ v. s.extend (s.extend f v) (e k b q)) none ∙ ap (λ v. s.extend v (e k b q)) (o.right f) ∙ o.left (e k b q) in
-      combined_more (through s e f p a b q) k sum s.none sum was (sym nothing) (sym (laws.comm sum s.none ∙ laws.none_left sum))
+  pub through_none : Absorbs s → (e : Edges V) (f : V) (p a b q m : ℕ) (sum : V) → e p a m ≡ s.none → sum ≡ s.combine sum (through s e f p a b q m)
+  through_none o e f p a b q m sum none =
+      sym (ap (s.combine sum) (ap (λ v. s.extend (s.extend f v) (e m b q)) none ∙ ap (λ v. s.extend v (e m b q)) (o.right f) ∙ o.left (e m b q)) ∙ laws.comm sum s.none ∙ laws.none_left sum)
+
+  -- so the sum over the states before it is the sum with it, too
+  pub through_none_more : Absorbs s → (e : Edges V) (f : V) (p a b q k : ℕ) (sum : V) → sum ≡ combined s (below k (through s e f p a b q)) → e p a k ≡ s.none → sum ≡ combined s (below (k + 1) (through s e f p a b q))
+  through_none_more o e f p a b q k sum was none =
+      combined_more (through s e f p a b q) k sum (through s e f p a b q k) sum was refl (through_none o e f p a b q k sum none)

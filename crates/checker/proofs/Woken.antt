@@ -17,10 +17,13 @@ readers_past [] g n h = refl
 readers_past (r ∷ rs) g zero h = absurd (omega arith)
 readers_past (r ∷ rs) g (suc n) h = readers_past rs g n (omega arith)
 
+readers_low : (rs : List Rule) (g n : ℕ) → readers rs g n ≡ true → n < length rs
+readers_low rs g n e = grind (arith, readers_past rs g n)
+
 -- what waits, and if b the rules that have the symbol g too, is below a number that no rule reaches
 pub woken_low : (b : Bool) (w : Set) (rs : List Rule) (g m : ℕ) → ((i : ℕ) → w i ≡ true → i < m) → length rs ≤ m
     → (i : ℕ) → cond b (union w (readers rs g)) w i ≡ true → i < m
-woken_low true w rs g m low few i e = grind (arith, nat_tests, low i, readers_past rs g i)
+woken_low true w rs g m low few i e = grind (arith, low i, readers_low rs g i)
 woken_low false w rs g m low few i e = low i e
 
 -- where the rules below n that have the symbol g wait besides what waited, and there are no others, all of them do

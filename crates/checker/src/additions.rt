@@ -81,6 +81,8 @@ impl Record {
     }
 
     // Adds a rule with its weight, and has it wait; its number. Its parts are no `Rule` yet, since the word may be too long.
+    // Put into its callers where it can be: a call of it took up to a quarter longer.
+    #[inline]
     pub fn rule<S: Scale, K: Worklist>(
         &mut self,
         _pass: &Editing,

@@ -95,21 +95,18 @@ fn recursive<S: Scale, K: Worklist>(
 
 #[test]
 fn worked_over_each_scale_and_worklist(rt: HostRuntime) -> Result<(), Fail> {
-    let mut slots = [7; 9];
-    let mut marks = MarkTable::new();
-    let mut ring = Ring::new(&mut slots);
     let times = [5, 2, 3, 1, 4, 10, 4].map(minutes);
-    assert!(rt; worked(lent!(None, marks), times)?);
-    assert!(rt; worked(lent!(None, ring), times)?);
+    assert!(rt; worked(lent!(None, MarkTable::new()), times)?);
+    assert!(rt; worked(lent!(None, Ring::new(&mut [7; 9])), times)?);
     let yes = [YesNo::one(); 7];
-    assert!(rt; worked(lent!(YesNo::none(), marks), yes)?);
-    assert!(rt; worked(lent!(YesNo::none(), ring), yes)?);
+    assert!(rt; worked(lent!(YesNo::none(), MarkTable::new()), yes)?);
+    assert!(rt; worked(lent!(YesNo::none(), Ring::new(&mut [7; 9])), yes)?);
     let one = Some(Flags::one());
     let sets = flags(0xffff_ffff, 1);
     let clears = flags(0xffff_fffe, 0);
     let words = [sets, one, clears, one, sets, clears, sets];
-    assert!(rt; worked(lent!(None, marks), words)?);
-    assert!(rt; worked(lent!(None, ring), words)?);
+    assert!(rt; worked(lent!(None, MarkTable::new()), words)?);
+    assert!(rt; worked(lent!(None, Ring::new(&mut [7; 9])), words)?);
     Ok(())
 }
 

@@ -1,5 +1,5 @@
 use Rattle.std.proofs.Common.{arith}
-use Rattle.automaton.proofs.Combined.{combined_more, through_none}
+use Rattle.automaton.proofs.Combined.{combined_more, through_none_more}
 use Rattle.automaton.proofs.edges.Edges.through_middle.Goals as goal
 use Rattle.automaton.proofs.edges.Edges.through_middle.Goals.{then-not-same, else-not-same}
 
@@ -9,5 +9,5 @@ loop-middle-preserved g c =
     let laws = g.met.S.Scale in
     elim c.if-not-same.branch [
       | then-not-same w ↦ grind (arith, combined_more s laws.combines)
-      | else-not-same w ↦ grind (arith, through_none s laws.combines laws.absorbs, laws.tells)
+      | else-not-same w ↦ grind (arith, through_none_more s laws.combines laws.absorbs, laws.tells)
     ]
